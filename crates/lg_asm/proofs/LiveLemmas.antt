@@ -74,17 +74,17 @@ module _ (places : List (Option Place)) where
   before-same n S = λ i r. numbered (reads-same n i) r || (S r && not (numbered (writes-same n i) r))
 
   -- a node of the new list comes from one of the old
-  node-back : (o : Option Node) (m : Node) → option_map (resolved_node places) o ≡ Some m → (n : Node) × (o ≡ Some n) × (resolved_node places n ≡ m)
+  pub node-back : (o : Option Node) (m : Node) → option_map (resolved_node places) o ≡ Some m → (n : Node) × (o ≡ Some n) × (resolved_node places n ≡ m)
   node-back (Some n) m e = (n, refl, same_Some (resolved_node places n) m e)
   node-back None m e = cc
 
 -- ---- what is live
-module _ (l : LabelledNodes) (shape : TextShape) (addresses : List ℕ) (at : ℕ → ℕ) (images : (x k : ℕ) → IsBound l x (place.Image k) → slice_index addresses x ≡ data_base + k) where
+module _ (l : LabelledNodes) (shape : TextShape) (addresses : List ℕ) (at : ℕ → ℕ) (saved : ℕ) (images : (x k : ℕ) → IsBound l x (place.Image k) → slice_index addresses x ≡ data_base + k) where
   abbrev old : Code
-  old = record { nodes = l; shape = shape; addresses = addresses; place = at }
+  old = record { nodes = l; shape = shape; addresses = addresses; place = at; saved = saved }
 
   abbrev new : Code
-  new = record { nodes = resolved_text l; shape = shape; addresses = addresses; place = at }
+  new = record { nodes = resolved_text l; shape = shape; addresses = addresses; place = at; saved = saved }
 
   back : (i : ℕ) (m : Node) → slice_get new.nodes.nodes i ≡ Some m → (n : Node) × (slice_get l.nodes i ≡ Some n) × (resolved_node l.places n ≡ m)
   back i m e = node-back l.places (slice_get l.nodes i) m (sym (slice_get-map (resolved_node l.places) l.nodes i) ∙ e)

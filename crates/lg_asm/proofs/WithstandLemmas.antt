@@ -25,7 +25,7 @@ use Rattle.lg_sela_values.proofs.OfProcessor.TouchLemmas as aarch64
 use Rattle.lg_selx_values.proofs.OfProcessor.TouchLemmas as x86_64
 use Rattle.lg_asm.specs.Assembled.{Assembled, IsCode, CodeWithstands}
 use Rattle.lg_asm.specs.CarriedLiveness.{live_at}
-use Rattle.lg_asm.specs.Lowered.{code_of}
+use Rattle.lg_asm.specs.Lowered.{frame_saves, code_of}
 use Rattle.lg_asm.proofs.CodeLemmas.{places-up, places-end}
 use Rattle.lg_asm.proofs.StartLemmas.{start-stands}
 
@@ -52,7 +52,7 @@ blind X86_64 code trash bytes word = record {
 
 module _ (c : Assembled) (k : IsCode c) where
   abbrev code : Code
-  code = code_of c.nodes c.shape c.labels c.places
+  code = code_of c.nodes c.shape c.labels c.places (frame_saves c.nodes.nodes c.live)
 
   abbrev count : ℕ
   count = length c.nodes.nodes

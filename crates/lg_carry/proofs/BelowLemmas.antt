@@ -1,6 +1,7 @@
 -- Bytes below the stack pointer do not count where states stand for each other.
 use Rattle.std.proofs.Common.{◌≡◌, ℕ, ◌+◌, ◌-◌, ◌<◌, ◌≤◌, ◌⊎◌, inl, inr, Bool, true, false, List, [], ◌∷◌, Option, Some, None, refl, sym, ap, ◌∙◌, subst, arith, ⊎_elim, length}
 use Rattle.std.specs.Prelude.{◌==◌, not}
+use Rattle.std.proofs.lemmas.Bool.{or_cases}
 use Rattle.lg_base.specs.Conventions.{stack_register, frame_register, link_register}
 use Rattle.lg_base.specs.Flags.{carry_of}
 use Rattle.lg_base.specs.Layout.{return_word}
@@ -20,7 +21,7 @@ use Rattle.lg_carry.specs.Registers.{HasWord, HoldsRegisters, HoldsCarry, HoldsR
 use Rattle.lg_carry.specs.Stands.{lowest, HasParts, StatesAgree}
 use Rattle.lg_carry.proofs.AgreeInFrameLemmas.{settled, running}
 use Rattle.lg_carry.proofs.KeptLemmas.{stack_arguments-kept, frames-kept, running-kept}
-use Rattle.lg_carry.proofs.StackLemmas.{stacked, few-arguments, stacked-running, words-above, within-where, or-cases, locals-above, open-where, settled-size, stacked-high}
+use Rattle.lg_carry.proofs.StackLemmas.{stacked, few-arguments, stacked-running, words-above, within-where, locals-above, open-where, settled-size, stacked-high}
 use Rattle.lg_carry.proofs.WordLemmas.{word-kept}
 use Rattle.lg_carry.specs.Below.{LooksSame, StatesAreKept, StandsAreKept}
 
@@ -126,7 +127,7 @@ module _ (target : Target) (c : Code) (live : Frame → ℕ → Bool) (s : State
       (λ locals. ⊎_elim
       (λ here. let w = within-where (s.frame.sp - 144 - s.frame.locals) s.frame.locals a here in absurd (omega (arith, w.0, w.1, none.1)))
       (λ there. let k = locals-above s.frame.sp s.callers a (stacked c.nodes c.shape s.frame s.callers st.fits.linked) there in inr (omega (arith, k, at, under)))
-      (or-cases (in_locals s.frame a) (in_any_locals s.callers a) locals))
+      (or_cases (in_locals s.frame a) (in_any_locals s.callers a) locals))
       (open-where s q.bytes a st.parts (let m = st.mark in let h = st.seen.high in omega (arith, m, h)) can))
       (subst (λ x. IsRunning x target c.place r.bytes r.registers s.frame s.callers (live (at_call s.frame)) (homes_at c s.at)) (sym outside) record {
         stack = ap (λ w. w (stack_register target)) look.registers ∙ at;

@@ -3,7 +3,7 @@ use Rattle.std.proofs.Common.{◌≡◌, ⊎_elim, ℕ, zero, suc, ◌+◌, ◌<
 use Rattle.std.specs.Prelude.{is_none, if◌then◌else◌, slice_get, slice_range, slice_index_or}
 use Rattle.std.specs.List.{find, list_any, sum_by}
 use Rattle.std.specs.Option.{option_map, option_and_then, option_to_list}
-use Rattle.std.proofs.lemmas.Bool.{cases_lt, or_parts}
+use Rattle.std.proofs.lemmas.Bool.{cases_lt, or_parts, or_from}
 use Rattle.std.proofs.Math.Seq.{take-length}
 use Rattle.std.proofs.lemmas.Option.{slice_get_within}
 use Rattle.lg_base.specs.declared.refusal.Refusal.{Refusal}
@@ -138,9 +138,6 @@ branch-acts b xs ys = record { prolog = refl; epilog = refl; arg = refl; size = 
     manies : (a : ℕ) (c : Option Preparation) → is_too_many a c (op.Branch b last_operand.Immediate) ≡ is_too_many a c (op.Branch b last_operand.Register)
     manies a None = refl
     manies a (Some c) = refl
-
-both-false : (b c : Bool) → b ≡ false → c ≡ false → (b || c) ≡ false
-both-false b c e f = ap (λ x. x || c) e ∙ f
 
 fails-none : (p : RefusalKind → Bool) (ks : List RefusalKind) → FailsAll p ks → find p ks ≡ None
 fails-none p [] h = refl
@@ -307,8 +304,8 @@ module _ (l m : LabelledNodes) (a : IsAccepted l) (to : IsFoldedTo l m) where
     where
       by : (p q : Option ℕ) → made known n.op n.operands ≡ p → last_known known n.op n.operands ≡ q → Clear h (folded_by n p q)
       by (Some v) q ep eq = (
-        both-false _ _ (never-write h (op.Plain plain.Movi) (slice_index_or n.operands 0 (operand.Number 0))) (both-false _ _ (never-number h (op.Plain plain.Movi) v) refl),
-        both-false _ _ (first-missing n.operands c.1) refl,
+        or_from _ _ (never-write h (op.Plain plain.Movi) (slice_index_or n.operands 0 (operand.Number 0))) (or_from _ _ (never-number h (op.Plain plain.Movi) v) refl),
+        or_from _ _ (first-missing n.operands c.1) refl,
       )
       by None (Some v) ep eq = ⊎_elim binary branch (last-cases known n.op n.operands v eq)
         where
@@ -316,13 +313,13 @@ module _ (l m : LabelledNodes) (a : IsAccepted l) (to : IsFoldedTo l m) where
           missing x y z e =
               let p = or_parts (is_missing l.places x) (list_any (is_missing l.places) (y ∷ z ∷ [])) (ap (list_any (is_missing l.places)) (sym e) ∙ c.1) in
               let q = or_parts (is_missing l.places y) (list_any (is_missing l.places) (z ∷ [])) p.1 in
-              both-false _ _ p.0 (both-false _ _ q.0 refl)
+              or_from _ _ p.0 (or_from _ _ q.0 refl)
 
           binary : BinaryLast known n.op n.operands v → Clear h (as_immediate n v)
           binary b =
               subst (λ o. Clear h (as_immediate (record n { op = o }) v)) (sym b.op_is)
               (subst (λ xs. Clear h (as_immediate (record n { op = op.Binary b.name last_operand.Register; operands = xs }) v)) (sym b.operands_are) (
-                both-false _ _ (never-write h (op.Binary b.name last_operand.Immediate) b.into) (both-false _ _ (never-read h (op.Binary b.name last_operand.Immediate) b.first) (both-false _ _ (never-number h (op.Binary b.name last_operand.Immediate) v) refl)),
+                or_from _ _ (never-write h (op.Binary b.name last_operand.Immediate) b.into) (or_from _ _ (never-read h (op.Binary b.name last_operand.Immediate) b.first) (or_from _ _ (never-number h (op.Binary b.name last_operand.Immediate) v) refl)),
                 missing b.into b.first (operand.Reg b.second) b.operands_are,
               ))
 
@@ -332,7 +329,7 @@ module _ (l m : LabelledNodes) (a : IsAccepted l) (to : IsFoldedTo l m) where
               let first = or_parts (is_astray l h (op.Branch b.name last_operand.Register) form.Target b.to) _ old in
               subst (λ o. Clear h (as_immediate (record n { op = o }) v)) (sym b.op_is)
               (subst (λ xs. Clear h (as_immediate (record n { op = op.Branch b.name last_operand.Register; operands = xs }) v)) (sym b.operands_are) (
-                both-false _ _ (target-same h (op.Branch b.name last_operand.Register) (op.Branch b.name last_operand.Immediate) b.to ∙ first.0) (both-false _ _ (never-read h (op.Branch b.name last_operand.Immediate) b.first) (both-false _ _ (never-number h (op.Branch b.name last_operand.Immediate) v) refl)),
+                or_from _ _ (target-same h (op.Branch b.name last_operand.Register) (op.Branch b.name last_operand.Immediate) b.to ∙ first.0) (or_from _ _ (never-read h (op.Branch b.name last_operand.Immediate) b.first) (or_from _ _ (never-number h (op.Branch b.name last_operand.Immediate) v) refl)),
                 missing b.to b.first (operand.Reg b.second) b.operands_are,
               ))
       by None None ep eq = c

@@ -3,6 +3,7 @@ use Rattle.std.proofs.Common.{◌≡◌, ℕ, zero, suc, ◌+◌, ◌-◌, ◌<�
 use Rattle.std.specs.Prelude.{if◌then◌else◌, Result, IfOk, slice_get, slice_index}
 use Rattle.std.proofs.lemmas.List.{length-map, get_or-map}
 use Rattle.std.proofs.lemmas.Option.{slice_get_within, same_Some}
+use Rattle.std.proofs.lemmas.Bool.{or_parts}
 use Rattle.lg_op.specs.declared.node.Node.{Node}
 use Rattle.lg_op.specs.declared.op.Op.{Op}
 use Rattle.lg_op.specs.declared.op.Op.TheVariants as op
@@ -42,15 +43,12 @@ folded-joins Stands l m n first second made o = record {
 }
 
 -- ---- which operations go
-no-or : (a b : Bool) → (a || b) ≡ false → (a ≡ false) × (b ≡ false)
-no-or true b e = cc
-no-or false b e = (refl, e)
 
 pub no-definition : (o : Op) → is_droppable o ≡ false → defines o ≡ false
-no-definition o e = (no-or (defines o) (is_jump o) e).0
+no-definition o e = (or_parts (defines o) (is_jump o) e).0
 
 pub no-jump : (o : Op) → is_droppable o ≡ false → is_jump o ≡ false
-no-jump o e = (no-or (defines o) (is_jump o) e).1
+no-jump o e = (or_parts (defines o) (is_jump o) e).1
 
 pub no-movr : (o : Op) → is_droppable o ≡ false → is_movr o ≡ false
 no-movr o e = by o (no-definition o e)

@@ -2,7 +2,7 @@
 use Rattle.std.proofs.Common.{◌≡◌, ◌≢◌, ⊎_elim, ℕ, zero, suc, ◌≤◌, Bool, true, false, ◌&&◌, ◌||◌, List, [], ◌∷◌, Option, Some, None, length, refl, sym, ap, ◌∙◌, add-one, arith}
 use Rattle.std.specs.Prelude.{if◌then◌else◌, is_some, slice_get}
 use Rattle.std.specs.Option.{option_map}
-use Rattle.std.proofs.lemmas.Bool.{and_parts}
+use Rattle.std.proofs.lemmas.Bool.{and_parts, or_left, or_right}
 use Rattle.std.proofs.lemmas.Option.{slice_get-map, same_Some}
 use Rattle.lg_op.specs.Forms.{forms_of, last_form, admit, admits}
 use Rattle.lg_op.specs.Nodes.{InForm}
@@ -91,13 +91,6 @@ module _ (l : LabelledNodes) (keep : ℕ → Bool) (targets : ℕ → Option Lab
           (behind-cases (known_before m (nu i)) c.node r v c.known)
 
 -- ---- nodes can be folded only by what they read
-or-left : (b c : Bool) → b ≡ true → (b || c) ≡ true
-or-left true c e = refl
-or-left false c e = cc
-
-or-right : (b c : Bool) → c ≡ true → (b || c) ≡ true
-or-right true c e = refl
-or-right false c e = e
 
 same-itself : (a : Reg) → a ≢ Fp → is_same a a ≡ true
 same-itself R0 e = refl
@@ -121,10 +114,10 @@ module _ (f g : Reg → Option ℕ) (fp : f Fp ≡ None) (n : Node) (more : (r :
 
   -- the operands that are read
   second-read : (fs : List Form) (d a : Operand) (xs : List Operand) (r : Reg) → a ≡ operand.Reg r → r ≢ Fp → (h : Form) → names access.Read (h ∷ form.Read ∷ fs) (d ∷ a ∷ xs) r ≡ true
-  second-read fs d a xs r z nf h = or-left (names access.Read fs xs r || is_register r a) _ (or-right (names access.Read fs xs r) (is_register r a) (ap (is_register r) z ∙ same-itself r nf))
+  second-read fs d a xs r z nf h = or_left (names access.Read fs xs r || is_register r a) _ (or_right (names access.Read fs xs r) (is_register r a) (ap (is_register r) z ∙ same-itself r nf))
 
   third-read : (d a c : Operand) (r : Reg) → c ≡ operand.Reg r → r ≢ Fp → (h : Form) → names access.Read (h ∷ form.Read ∷ form.Read ∷ []) (d ∷ a ∷ c ∷ []) r ≡ true
-  third-read d a c r z nf h = or-left (is_register r c || is_register r a) _ (or-left (is_register r c) (is_register r a) (ap (is_register r) z ∙ same-itself r nf))
+  third-read d a c r z nf h = or_left (is_register r c || is_register r a) _ (or_left (is_register r c) (is_register r a) (ap (is_register r) z ∙ same-itself r nf))
 
   read-as : (o : Op) (xs : List Operand) (r : Reg) → n.op ≡ o → n.operands ≡ xs → names access.Read (forms_of o) xs r ≡ true → is_read n r ≡ true
   read-as o xs r eo ex h = ap (λ p. names access.Read (forms_of p) n.operands r) eo ∙ ap (λ ys. names access.Read (forms_of o) ys r) ex ∙ h

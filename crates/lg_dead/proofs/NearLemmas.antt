@@ -2,6 +2,7 @@
 use Rattle.std.proofs.Common.{◌≡◌, ℕ, zero, suc, ◌+◌, ◌-◌, ◌⊎◌, inl, inr, Bool, true, false, ◌&&◌, ◌||◌, Option, Some, None, List, [], ◌∷◌, ◌++◌, refl, sym, ap, ◌∙◌, subst}
 use Rattle.std.specs.Prelude.{nat_lt, nat_le, if◌then◌else◌, slice_get, slice_index_or}
 use Rattle.std.specs.Option.{option_and_then}
+use Rattle.std.proofs.lemmas.Bool.{and_from, or_left, or_right}
 use Rattle.lg_base.specs.Words.{add_words}
 use Rattle.lg_base.specs.Spaces.{loaded, stored}
 use Rattle.lg_base.specs.HostNames.{host_by_address}
@@ -61,14 +62,6 @@ is-itself V1 = inr refl
 is-itself V2 = inr refl
 is-itself Fp = inl refl
 
-or-left : (b c : Bool) → b ≡ true → (b || c) ≡ true
-or-left true c e = refl
-or-left false c e = cc
-
-or-right : (b c : Bool) → c ≡ true → (b || c) ≡ true
-or-right true c e = refl
-or-right false c e = e
-
 and-left : (b c : Bool) → (b && c) ≡ true → b ≡ true
 and-left true c e = refl
 and-left false c e = cc
@@ -77,19 +70,15 @@ and-right : (b c : Bool) → (b && c) ≡ true → c ≡ true
 and-right true c e = e
 and-right false c e = cc
 
-both : (b c : Bool) → b ≡ true → c ≡ true → (b && c) ≡ true
-both true c e f = f
-both false c e f = cc
-
 -- a register that stands at such a place is read
 named-at : (fs : List Form) (xs : List Operand) (i : ℕ) (q : Reg) → admit fs xs ≡ true → takes (slice_index_or fs i form.Write) ≡ true → slice_index_or xs i (operand.Number 0) ≡ operand.Reg q → is_register q (operand.Reg q) ≡ true → names access.Read fs xs q ≡ true
 named-at [] [] i q a t e r = cc
 named-at [] (x ∷ xs) i q a t e r = cc
 named-at (f ∷ fs) [] i q a t e r = cc
 named-at (f ∷ fs) (x ∷ xs) zero q a t e r =
-    or-right (names access.Read fs xs q) (is_for access.Read f && is_register q x)
-    (both (is_for access.Read f) (is_register q x) (read-of f q t (ap (admits f) (sym e) ∙ and-left (admits f x) (admit fs xs) a)) (ap (is_register q) e ∙ r))
-named-at (f ∷ fs) (x ∷ xs) (suc i) q a t e r = or-left (names access.Read fs xs q) (is_for access.Read f && is_register q x) (named-at fs xs i q (and-right (admits f x) (admit fs xs) a) t e r)
+    or_right (names access.Read fs xs q) (is_for access.Read f && is_register q x)
+    (and_from (is_for access.Read f) (is_register q x) (read-of f q t (ap (admits f) (sym e) ∙ and-left (admits f x) (admit fs xs) a)) (ap (is_register q) e ∙ r))
+named-at (f ∷ fs) (x ∷ xs) (suc i) q a t e r = or_left (names access.Read fs xs q) (is_for access.Read f && is_register q x) (named-at fs xs i q (and-right (admits f x) (admit fs xs) a) t e r)
 
 takes-last : (last : LastOperand) → takes (last_form last) ≡ true
 takes-last last_operand.Register = refl

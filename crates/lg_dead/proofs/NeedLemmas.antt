@@ -1,6 +1,7 @@
 -- Steps of nodes that stay, from states that differ in registers that are not needed.
 use Rattle.std.proofs.Common.{◌≡◌, ℕ, ◌+◌, ◌⊎◌, inl, inr, Bool, true, false, ◌&&◌, ◌||◌, Option, Some, None, List, [], ◌∷◌, refl, sym, ap, ◌∙◌, subst, ⊎_elim}
 use Rattle.std.specs.Prelude.{nat_lt, slice_get}
+use Rattle.std.proofs.lemmas.Bool.{or_left, or_right}
 use Rattle.lg_op.specs.Forms.{forms_of}
 use Rattle.lg_op.specs.Nodes.{InForm}
 use Rattle.lg_op.specs.Operands.{number_of}
@@ -86,14 +87,6 @@ or-of : (b c d : Bool) → b ≡ false → (c && d) ≡ false → (b || (c && d)
 or-of true c d e f = cc
 or-of false c d e f = f
 
-or-left : (b c : Bool) → b ≡ true → (b || c) ≡ true
-or-left true c e = refl
-or-left false c e = cc
-
-or-right : (b c : Bool) → c ≡ true → (b || c) ≡ true
-or-right true c e = refl
-or-right false c e = e
-
 module _ (needs : ℕ → Reg → Bool) (these : Reg → Bool) where
   -- where the registers that are needed at the new node are among these
   narrowed : (u v : State) → ((r : Reg) → needs u.at r ≡ true → (these r ≡ true) ⊎ (word_of u.regs r ≡ None)) → Near needs these u v → Near needs (needs u.at) u v
@@ -143,8 +136,8 @@ module _ (l : LabelledNodes) (shape : TextShape) (stays : ℕ → Bool) (needs :
             by (inl succ) = inl (written (is_written n r) refl)
               where
                 written : (b : Bool) → is_written n r ≡ b → these r ≡ true
-                written true w = or-right (needs s.at r) (is_written n r) w
-                written false w = or-left (needs s.at r) (is_written n r) (are.passes s.at u.at n r here succ e w)
+                written true w = or_right (needs s.at r) (is_written n r) w
+                written false w = or_left (needs s.at r) (is_written n r) (are.passes s.at u.at n r here succ e w)
 
     goes-back : is_return n.op ≡ true → Meets (AreNear needs) (node_step t n n.op s) (node_step t n n.op m)
     goes-back k = narrow needs (needs s.frame.back) (node_step t n n.op s) (node_step t n n.op m)

@@ -2,7 +2,7 @@
 use Rattle.std.proofs.Common.{◌≡◌, ◌⊎◌, inl, inr, ℕ, ◌+◌, ◌<◌, Bool, true, false, not, ◌&&◌, ◌||◌, List, [], ◌∷◌, Some, length, refl, sym, ap, ◌∙◌, subst, add-one, arith}
 use Rattle.std.specs.Prelude.{slice_get, slice_index_or}
 use Rattle.std.specs.Option.{option_map}
-use Rattle.std.proofs.lemmas.Bool.{and_parts}
+use Rattle.std.proofs.lemmas.Bool.{and_parts, or_cases, or_parts}
 use Rattle.std.proofs.lemmas.Option.{slice_get_within, slice_get-map, same_Some}
 use Rattle.lg_op.specs.declared.node.Node.{Node}
 use Rattle.lg_op.specs.declared.operand.Operand.{Operand}
@@ -96,13 +96,6 @@ next-only l s i k n e d x =
     g.0
 
 -- ---- which registers a node writes
-or-cases : (b c : Bool) → (b || c) ≡ true → (b ≡ true) ⊎ (c ≡ true)
-or-cases true c e = inl refl
-or-cases false c e = inr e
-
-or-parts : (b c : Bool) → (b || c) ≡ false → (b ≡ false) × (c ≡ false)
-or-parts true c e = cc
-or-parts false c e = (refl, e)
 
 both-not : (b c : Bool) → (b && c) ≡ false → b ≡ true → c ≡ false
 both-not true c e f = e
@@ -114,7 +107,7 @@ record Found (needs : Reg → Bool) (n : Node) : Type 0 where
   needed : needs register ≡ true
 
 find-needed : (needs : Reg → Bool) (n : Node) → any_needed needs n ≡ true → Found needs n
-find-needed needs n e = at0 (or-cases _ _ e)
+find-needed needs n e = at0 (or_cases _ _ e)
   where
     one : (r : Reg) → (is_written n r && needs r) ≡ true → Found needs n
     one r e = let p = and_parts (is_written n r) (needs r) e in record { register = r; written = p.0; needed = p.1 }
@@ -125,37 +118,37 @@ find-needed needs n e = at0 (or-cases _ _ e)
 
     at3 : (((is_written n V0 && needs V0) ≡ true) ⊎ (((is_written n V1 && needs V1) || (is_written n V2 && needs V2)) ≡ true)) → Found needs n
     at3 (inl e) = one V0 e
-    at3 (inr e) = at4 (or-cases _ _ e)
+    at3 (inr e) = at4 (or_cases _ _ e)
 
     at2 : (((is_written n R2 && needs R2) ≡ true) ⊎ (((is_written n V0 && needs V0) || ((is_written n V1 && needs V1) || (is_written n V2 && needs V2))) ≡ true)) → Found needs n
     at2 (inl e) = one R2 e
-    at2 (inr e) = at3 (or-cases _ _ e)
+    at2 (inr e) = at3 (or_cases _ _ e)
 
     at1 : (((is_written n R1 && needs R1) ≡ true) ⊎ (((is_written n R2 && needs R2) || ((is_written n V0 && needs V0) || ((is_written n V1 && needs V1) || (is_written n V2 && needs V2)))) ≡ true)) → Found needs n
     at1 (inl e) = one R1 e
-    at1 (inr e) = at2 (or-cases _ _ e)
+    at1 (inr e) = at2 (or_cases _ _ e)
 
     at0 : (((is_written n R0 && needs R0) ≡ true) ⊎ (((is_written n R1 && needs R1) || ((is_written n R2 && needs R2) || ((is_written n V0 && needs V0) || ((is_written n V1 && needs V1) || (is_written n V2 && needs V2))))) ≡ true)) → Found needs n
     at0 (inl e) = one R0 e
-    at0 (inr e) = at1 (or-cases _ _ e)
+    at0 (inr e) = at1 (or_cases _ _ e)
 
 none-needed : (needs : Reg → Bool) (n : Node) → (needs Fp ≡ false) → any_needed needs n ≡ false → (r : Reg) → is_written n r ≡ true → needs r ≡ false
 none-needed needs n fp e r w = by r w
   where
     p0 : ((is_written n R0 && needs R0) ≡ false) × (((is_written n R1 && needs R1) || ((is_written n R2 && needs R2) || ((is_written n V0 && needs V0) || ((is_written n V1 && needs V1) || (is_written n V2 && needs V2))))) ≡ false)
-    p0 = or-parts (is_written n R0 && needs R0) _ e
+    p0 = or_parts (is_written n R0 && needs R0) _ e
 
     p1 : ((is_written n R1 && needs R1) ≡ false) × (((is_written n R2 && needs R2) || ((is_written n V0 && needs V0) || ((is_written n V1 && needs V1) || (is_written n V2 && needs V2)))) ≡ false)
-    p1 = or-parts (is_written n R1 && needs R1) _ p0.1
+    p1 = or_parts (is_written n R1 && needs R1) _ p0.1
 
     p2 : ((is_written n R2 && needs R2) ≡ false) × (((is_written n V0 && needs V0) || ((is_written n V1 && needs V1) || (is_written n V2 && needs V2))) ≡ false)
-    p2 = or-parts (is_written n R2 && needs R2) _ p1.1
+    p2 = or_parts (is_written n R2 && needs R2) _ p1.1
 
     p3 : ((is_written n V0 && needs V0) ≡ false) × (((is_written n V1 && needs V1) || (is_written n V2 && needs V2)) ≡ false)
-    p3 = or-parts (is_written n V0 && needs V0) _ p2.1
+    p3 = or_parts (is_written n V0 && needs V0) _ p2.1
 
     p4 : ((is_written n V1 && needs V1) ≡ false) × ((is_written n V2 && needs V2) ≡ false)
-    p4 = or-parts (is_written n V1 && needs V1) _ p3.1
+    p4 = or_parts (is_written n V1 && needs V1) _ p3.1
 
     by : (r : Reg) → is_written n r ≡ true → needs r ≡ false
     by R0 w = both-not (is_written n R0) (needs R0) p0.0 w

@@ -18,6 +18,7 @@ use Rattle.lg_op.specs.declared.operand.Reg.{Reg}
 use Rattle.lg_op.specs.declared.operand.Reg.TheVariants.{R0, R1, R2, V0, V1, V2, Fp}
 use Rattle.lg_op.specs.declared.op.LastOperand.TheVariants as last_operand
 use Rattle.std.specs.Option.{option_map}
+use Rattle.std.proofs.lemmas.Bool.{or_parts}
 use Rattle.lg_live.specs.Uses.{is_read, is_written}
 use Rattle.lg_carry.specs.Carries.{leaps}
 use Rattle.lg_node.specs.Labels.{is_labelled}
@@ -128,10 +129,6 @@ or-false : (b : Bool) → (b || false) ≡ b
 or-false true = refl
 or-false false = refl
 
-or-parts : (b c : Bool) → (b || c) ≡ false → (b ≡ false) × (c ≡ false)
-or-parts true c e = cc
-or-parts false c e = (refl, e)
-
 -- what a source behind another node says
 record Source (f : Reg → Option Reg) (n : Node) (r x : Reg) : Type 0 where
   into : is_written n r ≡ false
@@ -180,7 +177,7 @@ module _ (n : Node) (k : Move) (e : move_of n.op n.operands ≡ Some k) where
   from-unknown known h =
       by (known k.from) refl
       (sym (ap (λ o. is_some (made known o n.operands)) there.0 ∙ ap (λ xs. is_some (made known (op.Unary unary.Mov) xs)) there.1)
-      ∙ (or-parts (is_some (made known n.op n.operands)) (is_some (last_known known n.op n.operands)) h).0)
+      ∙ (or_parts (is_some (made known n.op n.operands)) (is_some (last_known known n.op n.operands)) h).0)
     where
       by : (o : Option ℕ) → known k.from ≡ o → is_some (option_map (unary_value unary.Mov) o) ≡ false → known k.from ≡ None
       by None e h = e

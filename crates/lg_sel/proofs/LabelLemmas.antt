@@ -3,6 +3,7 @@ use Rattle.std.proofs.Common.{◌≡◌, ℕ, zero, suc, Bool, true, false, List
 use Rattle.std.specs.Prelude.{◌==◌, ◌||◌, ⊤, slice_index_or}
 use Rattle.std.specs.List.{list_any}
 use Rattle.std.proofs.lemmas.Bool.Decides.{nat_tests}
+use Rattle.std.proofs.lemmas.Bool.{or_right}
 use Rattle.lg_node.specs.Labels.{is_label}
 use Rattle.lg_op.specs.declared.operand.Operand.{Operand}
 use Rattle.lg_op.specs.declared.operand.Operand.TheVariants as operand
@@ -24,12 +25,8 @@ passes-at is (x ∷ xs) (suc k) a = passes-at is xs k a.1
 abbrev pub names : List Operand → ℕ → Bool
 names xs label = list_any (is_label label) xs
 
-or-right : (a b : Bool) → b ≡ true → (a || b) ≡ true
-or-right true b e = refl
-or-right false b e = e
-
 passes-more : (x y : Operand) (xs : List Operand) → Passes (names xs) y → Passes (names (x ∷ xs)) y
-passes-more x (operand.Label l) xs e = or-right (is_label l.0 x) (names xs l.0) e
+passes-more x (operand.Label l) xs e = or_right (is_label l.0 x) (names xs l.0) e
 passes-more x (operand.Reg r) xs e = tt
 passes-more x (operand.Number v) xs e = tt
 passes-more x (operand.Host name) xs e = tt

@@ -2,6 +2,7 @@
 use Rattle.std.proofs.Common.{◌≡◌, ℕ, zero, suc, ◌^◌, ◌<◌, Bool, true, false, List, [], ◌∷◌, refl, sym, ◌∙◌, arith}
 use Rattle.std.specs.Prelude.{slice_index_or, ◌||◌, ◌&&◌}
 use Rattle.std.specs.List.{list_any}
+use Rattle.std.proofs.lemmas.Bool.{and_parts, or_from, or_parts}
 use Rattle.lg_carry.specs.FinalNodes.{Code}
 use Rattle.lg_carry.specs.TextNodes.{IsInText}
 use Rattle.lg_op.specs.Forms.{admits, admit, address_forms, store_forms, control_forms, forms_of, last_form}
@@ -50,18 +51,6 @@ leads_nowhere (form.Target ∷ fs) = false
 leads_nowhere (form.Callee ∷ fs) = false
 leads_nowhere (f ∷ fs) = leads_nowhere fs
 
-and-both : (a b : Bool) → (a && b) ≡ true → (a ≡ true) × (b ≡ true)
-and-both true b e = (refl, e)
-and-both false b e = cc
-
-or-neither : (a b : Bool) → (a || b) ≡ false → (a ≡ false) × (b ≡ false)
-or-neither true b e = cc
-or-neither false b e = (refl, e)
-
-neither-or : (a b : Bool) → a ≡ false → b ≡ false → (a || b) ≡ false
-neither-or true b e f = cc
-neither-or false b e f = f
-
 leads-rest : (f : Form) (fs : List Form) → leads_nowhere (f ∷ fs) ≡ true → leads_nowhere fs ≡ true
 leads-rest form.Target fs e = cc
 leads-rest form.Callee fs e = cc
@@ -77,9 +66,9 @@ no-labels [] [] e a h = refl
 no-labels [] (x ∷ xs) e a h = cc
 no-labels (f ∷ fs) [] e a h = cc
 no-labels (f ∷ fs) (x ∷ xs) e a h =
-    let both = and-both (admits f x) (admit fs xs) a in
-    let neither = or-neither (is_label_for f x) (has_label_for fs xs) h in
-    neither-or (is_label x) (list_any is_label xs) (no-label-at f fs x e both.0 neither.0) (no-labels fs xs (leads-rest f fs e) both.1 neither.1)
+    let both = and_parts (admits f x) (admit fs xs) a in
+    let neither = or_parts (is_label_for f x) (has_label_for fs xs) h in
+    or_from (is_label x) (list_any is_label xs) (no-label-at f fs x e both.0 neither.0) (no-labels fs xs (leads-rest f fs e) both.1 neither.1)
 
 true-false : {A : Type 0} → true ≡ false → A
 true-false e = cc
@@ -95,24 +84,24 @@ unlabelled n may takes = by (has_label_for (forms_of n.op) n.operands) refl
 -- a branch compares with no label
 branch-ends : (last : LastOperand) (xs : List Operand) → admit (form.Target ∷ form.Read ∷ last_form last ∷ []) xs ≡ true → has_label_for (form.Target ∷ form.Read ∷ last_form last ∷ []) xs ≡ false → ends_in_label xs ≡ false
 branch-ends last_operand.Register (x ∷ y ∷ operand.Label l ∷ xs) a h =
-    let one = and-both (admits form.Target x) _ a in let two = and-both (admits form.Read y) _ one.1 in cc
+    let one = and_parts (admits form.Target x) _ a in let two = and_parts (admits form.Read y) _ one.1 in cc
 branch-ends last_operand.Immediate (x ∷ y ∷ operand.Label l ∷ xs) a h = cc
 branch-ends last xs a h = refl
 
 -- nor does one that adds or subtracts
 sum-ends : (last : LastOperand) (xs : List Operand) → admit (form.Target ∷ form.Update ∷ last_form last ∷ []) xs ≡ true → has_label_for (form.Target ∷ form.Update ∷ last_form last ∷ []) xs ≡ false → ends_in_label xs ≡ false
 sum-ends last_operand.Register (x ∷ y ∷ operand.Label l ∷ xs) a h =
-    let one = and-both (admits form.Target x) _ a in let two = and-both (admits form.Update y) _ one.1 in cc
+    let one = and_parts (admits form.Target x) _ a in let two = and_parts (admits form.Update y) _ one.1 in cc
 sum-ends last_operand.Immediate (x ∷ y ∷ operand.Label l ∷ xs) a h = cc
 sum-ends last xs a h = refl
 
 -- nor does a node with at most two operands
 short-ends : (f g : Form) (xs : List Operand) → admit (f ∷ g ∷ []) xs ≡ true → ends_in_label xs ≡ false
-short-ends f g (x ∷ y ∷ operand.Label l ∷ xs) a = let one = and-both (admits f x) _ a in let two = and-both (admits g y) _ one.1 in cc
+short-ends f g (x ∷ y ∷ operand.Label l ∷ xs) a = let one = and_parts (admits f x) _ a in let two = and_parts (admits g y) _ one.1 in cc
 short-ends f g xs a = refl
 
 one-ends : (f : Form) (xs : List Operand) → admit (f ∷ []) xs ≡ true → ends_in_label xs ≡ false
-one-ends f (x ∷ y ∷ operand.Label l ∷ xs) a = let one = and-both (admits f x) _ a in cc
+one-ends f (x ∷ y ∷ operand.Label l ∷ xs) a = let one = and_parts (admits f x) _ a in cc
 one-ends f xs a = refl
 
 none-ends : (xs : List Operand) → admit [] xs ≡ true → ends_in_label xs ≡ false

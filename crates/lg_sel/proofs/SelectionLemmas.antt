@@ -31,7 +31,7 @@ use Rattle.lg_sel.specs.Selected.{IsFrame, IsFinished, AreWhole, part_of}
 use Rattle.lg_sel.specs.Shorts.{IsShort, IsAhead}
 use Rattle.lg_sel.specs.Stores.{StoresAtMost, own_stores, is_free}
 use Rattle.lg_sel.specs.Holes.{Holes, Each, AreHoles, blanks, settled, fixes_of}
-use Rattle.lg_sel.specs.Reaches.{near_size, Leads, IsChecked, IsLeast, IsLeastAhead}
+use Rattle.lg_sel.specs.Reaches.{reach_ahead, Leads, IsChecked, IsLeast, IsLeastAhead}
 use Rattle.lg_sel.specs.declared.reach.Reach.{Reach}
 use Rattle.lg_temp.specs.Chosen.{spills}
 use Rattle.lg_temp.specs.declared.choice.Choice.{Choice}
@@ -55,7 +55,8 @@ pub record IsKnownAhead {L I : Type 0} (H : Holes L I) (is_item : L → Type 0) 
   pub appended : AreAppended H old new (items r)
   pub fit : Each is_item (items r)
   pub labels : (l : Label) → slice_get xs 0 ≡ Some (operand.Label l) → place_of old.labels l.0 ≡ None
-  pub least : IsLeastAhead (nat_le old.size near_size) (λ s. Each (Leads old) (fixes_of H (length old.bytes) (items s))) r
+  pub checked : Each (IsChecked r old) (fixes_of H (length old.bytes) (items r))
+  pub least : IsLeastAhead (reach_ahead old.size) (λ s. Each (Leads old) (fixes_of H (length old.bytes) (items s))) r
 
 -- of each node the items name the labels of its operands, store no more than they may, and are in range; those of a `prolog` have bytes
 pub record IsSelection {L I : Type 0} (target : Target) (needs : Op → List Need) (H : Holes L I) (spelling : I → List ℕ) (fits : I → Type 0) (is_item : L → Type 0)
@@ -136,11 +137,11 @@ module _ {L I : Type 0} {target : Target} {needs : Op → List Need} {H : Holes 
     -- and where those of nodes that lead ahead have the form that the buffer's size asks for, they have
     module _ (ahead : (code : List ℕ) (c : Code) (i : ℕ) → IsFinished old new code c i → (r : Reach) (o : Op) (xs : List Operand) (l : Label)
         → slice_get xs 0 ≡ Some (operand.Label l) → IsKnownAhead H is_item old new (λ s. (F s).control o xs frame (length old.bytes)) r o xs
-        → IsAhead target (nat_le old.size near_size) o (length old.bytes) (part_of code (length old.bytes) (length new.bytes - length old.bytes))) where
+        → IsAhead target (reach_ahead old.size) o (length old.bytes) (part_of code (length old.bytes) (length new.bytes - length old.bytes))) where
       ahead-of : (code : List ℕ) (c : Code) (i : ℕ) → IsFinished old new code c i → (l : Label) (o : Op) (xs : List Operand) (line : ℕ)
           → slice_get xs 0 ≡ Some (operand.Label l)
           → IsKnownAhead H is_item old new (λ s. node_items (F s) (node_of o xs line) frame choices staged (length old.bytes)) reach o xs
-          → IsAhead target (nat_le old.size near_size) o (length old.bytes) (part_of code (length old.bytes) (length new.bytes - length old.bytes))
+          → IsAhead target (reach_ahead old.size) o (length old.bytes) (part_of code (length old.bytes) (length new.bytes - length old.bytes))
       ahead-of code c i f l (op.Branch o last) xs line first k = ahead code c i f reach (op.Branch o last) xs l first k
       ahead-of code c i f l (op.BranchSum o last) xs line first k = ahead code c i f reach (op.BranchSum o last) xs l first k
       ahead-of code c i f l (op.Control control.Jmp last_operand.Immediate) xs line first k =
@@ -151,17 +152,19 @@ module _ {L I : Type 0} {target : Target} {needs : Op → List Need} {H : Holes 
           ahead code c i f reach (op.Control control.Finish last_operand.Immediate) xs l first k
       ahead-of code c i f l o xs line first k = tt
 
-      pub selected-ahead : ((l : Label) → slice_get node.operands 0 ≡ Some (operand.Label l) → place_of old.labels l.0 ≡ None → length old.bytes ≤ most_code
-          → IsLeastAhead (nat_le old.size near_size)
+      pub selected-ahead : Each (IsChecked reach old) (fixes_of H (length old.bytes) items)
+          → ((l : Label) → slice_get node.operands 0 ≡ Some (operand.Label l) → place_of old.labels l.0 ≡ None → length old.bytes ≤ most_code
+          → IsLeastAhead (reach_ahead old.size)
           (λ r. Each (Leads old) (fixes_of H (length old.bytes) (node_items (F r) node frame choices staged (length old.bytes)))) reach)
           → IsAheadWhenFinished target node old new
-      selected-ahead least code c i l f low first free =
+      selected-ahead checked least code c i l f low first free =
           let formed = asked.formed in
           ahead-of code c i f l node.op node.operands node.line first record {
             admitted = formed.forms;
             appended = own;
             fit = fit;
             labels = λ m is. let same : m ≡ l = same-label node.operands m l is first in ap (λ (k : Label). place_of old.labels k.0) same ∙ free;
+            checked = subst (λ xs. Each (IsChecked reach old) (fixes_of H (length old.bytes) xs)) e checked;
             least = least l first free low;
           }
 

@@ -1,5 +1,5 @@
 -- Whether code that leads to labels can be appended: whether it leads to those that are bound, and whether it may wait for those that are not.
-use Rattle.std.specs.Prelude.{◌≡◌, ℕ, nat_le, Bool, true, false, Option, Some, None, ⊤}
+use Rattle.std.specs.Prelude.{◌≡◌, ℕ, nat_le, if◌then◌else◌, Bool, true, false, Option, Some, None, ⊤}
 use Rattle.lg_buf.specs.Buffers.{Buffer, place_of}
 use Rattle.lg_buf.specs.Fixing.{Fits}
 use Rattle.lg_buf.specs.declared.fixes.Fix.{Fix}
@@ -8,18 +8,29 @@ use Rattle.lg_buf.specs.declared.fixes.FixKind.TheVariants.{X86Rel8, RvBranch, R
 use Rattle.lg_sel.specs.declared.reach.Reach.{Reach}
 use Rattle.lg_sel.specs.declared.reach.Reach.TheVariants.{Short, Near, Far}
 
--- the largest size of a buffer in which a field that reaches 1 MiB leads to every place
+-- the largest size of a buffer in which a field of 13 bits leads to every place that is fewer bytes away, and of one in which a field does that reaches 1 MiB
+abbrev pub small_size : ℕ
+small_size = 4096
+
 abbrev pub near_size : ℕ
 near_size = 1048576
 
--- in a buffer of this size a field of the kind may wait for a label that is not bound yet: the fields of 8 and 13 bits never do, and those that reach
--- 1 MiB only where that is enough
+-- how far a field of the kind reaches ahead, where that is less than all code
+abbrev pub reach_of : FixKind → Option ℕ
+reach_of RvBranch = Some small_size
+reach_of RvJal = Some near_size
+reach_of A64Cond19 = Some near_size
+reach_of kind = None
+
+-- every place of a buffer of this size lies within the reach, if there is one
+abbrev pub is_enough : Option ℕ → ℕ → Bool
+is_enough None size = true
+is_enough (Some reach) size = nat_le size reach
+
+-- in a buffer of this size a field of the kind may wait for a label that is not bound yet: that of 8 bits never does, the others where their reach is enough
 abbrev pub may_wait : FixKind → ℕ → Bool
 may_wait X86Rel8 size = false
-may_wait RvBranch size = false
-may_wait RvJal size = nat_le size near_size
-may_wait A64Cond19 size = nat_le size near_size
-may_wait kind size = true
+may_wait kind size = is_enough (reach_of kind) size
 
 -- the field leads to the place of its label, or may wait for it
 abbrev pub LeadsTo : ℕ → Fix → Option ℕ → Type 0
@@ -43,8 +54,16 @@ IsLeast does Short = ⊤
 IsLeast does Near = does Short → ⊥
 IsLeast does Far = (does Short → ⊥) × (does Near → ⊥)
 
--- nor where the label is not bound yet, of the reaches from the near one on, or of the far one alone in a buffer that is too large for the near one
-abbrev pub IsLeastAhead : Bool → (Reach → Type 0) → Reach → Type 0
-IsLeastAhead is_near does Short = ⊥
-IsLeastAhead is_near does Near = is_near ≡ true
-IsLeastAhead is_near does Far = is_near ≡ true → does Near → ⊥
+-- the reach with which code that leads ahead begins, by the buffer's size
+abbrev pub reach_ahead : ℕ → Reach
+reach_ahead size = if nat_le size small_size then Short else if nat_le size near_size then Near else Far
+
+-- nor where the label is not bound yet, of the reaches from that one on
+abbrev pub IsLeastAhead : Reach → (Reach → Type 0) → Reach → Type 0
+IsLeastAhead Short does r = IsLeast does r
+IsLeastAhead Near does Short = ⊥
+IsLeastAhead Near does Near = ⊤
+IsLeastAhead Near does Far = does Near → ⊥
+IsLeastAhead Far does Short = ⊥
+IsLeastAhead Far does Near = ⊥
+IsLeastAhead Far does Far = ⊤

@@ -1,9 +1,10 @@
 -- What is asked of a node and its buffer, and when the buffer is finished, on every target.
-use Rattle.std.specs.Prelude.{◌≡◌, ℕ, ◌+◌, ◌-◌, ◌%◌, ◌^◌, ◌<◌, ◌≤◌, ◌||◌, Bool, true, false, List, [], ◌∷◌, ◌++◌, length, take, drop, replicate, slice_index, slice_index_or, Option, Some, None}
+use Rattle.std.specs.Prelude.{◌≡◌, ℕ, ◌+◌, ◌-◌, ◌%◌, ◌^◌, ◌<◌, ◌≤◌, ◌||◌, ⊤, Bool, true, false, List, [], ◌∷◌, ◌++◌, length, take, drop, replicate, slice_index, slice_index_or, Option, Some, None}
 use Rattle.std.specs.List.{All, list_any}
 use Rattle.lg_base.specs.Layout.{code_base, most_code}
 use Rattle.lg_base.specs.declared.target.Target.{Target}
 use Rattle.lg_buf.specs.declared.fixes.Fix.{Fix}
+use Rattle.lg_buf.specs.declared.fixes.FixKind.{FixKind}
 use Rattle.lg_buf.specs.Buffers.{Buffer, AreDone, place_of}
 use Rattle.lg_buf.specs.Fixing.{IsWithin, Fits}
 use Rattle.lg_carry.specs.Blocks.{spellings}
@@ -25,7 +26,7 @@ use Rattle.lg_op.specs.declared.operand.Operand.{Operand}
 use Rattle.lg_op.specs.declared.operand.Operand.TheVariants as operand
 use Rattle.lg_op.specs.declared.operand.Reg.{Reg}
 use Rattle.lg_sel.specs.Holes.{IsApartFrom, HaveAddresses}
-use Rattle.lg_sel.specs.Reaches.{near_size}
+use Rattle.lg_sel.specs.Reaches.{reach_of}
 use Rattle.lg_temp.specs.declared.choice.Choice.{Choice}
 use Rattle.lg_temp.specs.declared.choice.Need.{Need}
 use Rattle.lg_temp.specs.Chosen.{around, choices_of}
@@ -80,19 +81,24 @@ abbrev pub TakesLabelsWell : Node → Type 0
 TakesLabelsWell node = has_label_for (forms_of node.op) node.operands ≡ true → may_take_label node.op ≡ true
 
 -- ---- what follows
--- where a field at a place may be led in a buffer of this size: to the place of its label, if that is bound, and else to every place, which lies within
--- 1 MiB where the size is no more
-abbrev pub MayBeLed : ℕ → ℕ → ℕ → Option ℕ → Type 0
-MayBeLed size place target (Some bound) = target ≡ bound
-MayBeLed size place target None = size ≤ near_size → IsWithin near_size place target
+-- a place lies within a reach, if there is one, in a buffer that is no larger than it
+abbrev pub IsReached : Option ℕ → ℕ → ℕ → ℕ → Type 0
+IsReached None size place target = ⊤
+IsReached (Some reach) size place target = size ≤ reach → IsWithin reach place target
+
+-- where a field of a kind at a place may be led in a buffer of this size: to the place of its label, if that is bound, and else to every place that lies within
+-- its reach where the size does
+abbrev pub MayBeLed : FixKind → ℕ → ℕ → ℕ → Option ℕ → Type 0
+MayBeLed kind size place target (Some bound) = target ≡ bound
+MayBeLed kind size place target None = IsReached (reach_of kind) size place target
 
 -- a field that lies behind the bytes of the old buffer leads to a label of the node, and reaches every place to which it may be led, at which an
 -- instruction may stand, which is a multiple of the unit
 pub record IsFixOf (unit : ℕ) (old : Buffer) (n : Node) (f : Fix) : Type 0 where
   pub from : length old.bytes ≤ f.place
   pub names : list_any (is_label f.label.0) n.operands ≡ true
-  pub reaches : (target : ℕ) → target % unit ≡ 0 → target ≤ most_code → f.place ≤ most_code → MayBeLed old.size f.place target (place_of old.labels f.label.0)
-      → Fits f.kind f.place target
+  pub reaches : (target : ℕ) → target % unit ≡ 0 → target ≤ most_code → f.place ≤ most_code
+      → MayBeLed f.kind old.size f.place target (place_of old.labels f.label.0) → Fits f.kind f.place target
 
 -- a buffer whose fixes are patched, in which the bytes and the fixes that were appended to an old buffer stand where they were appended, and
 -- no other fix has one of the bytes: of the final code, node i has these bytes, and each label has the address of its place
@@ -117,10 +123,11 @@ pub record IsFinished (old new : Buffer) (code : List ℕ) (c : Code) (i : ℕ) 
 -- the node is node i of an accepted text: its function has this frame, and where it is a `prolog` reads so many homes; its labels are code labels, and
 -- these arguments are staged at it, among them all that are pushed; at a `pushargr` or `pushargi` none but these. The nodes stand in the code part, those
 -- to which the code may jump at multiples of the unit, and all addresses of labels are below 2 ^ 30, as all of the memory is
-pub record IsNodeOf (unit : ℕ) (node : Node) (frame homes : ℕ) (staged : List Bool) (c : Code) (i : ℕ) : Type 0 where
+pub record IsNodeOf (unit : ℕ) (node : Node) (frame homes saved : ℕ) (staged : List Bool) (c : Code) (i : ℕ) : Type 0 where
   pub text : IsInText c i node
   pub frame_is : IsFrameOf c i frame
   pub homes_are : IsHomesOf c i homes
+  pub saved_is : c.saved ≡ saved
   pub names : NamesCode c node
   pub pushed_are : (j : ℕ) → j < pushed c.nodes.nodes i → slice_index_or staged j false ≡ true
   pub exact : is_pusharg node.op ≡ true → staged ≡ first_arguments (pushed c.nodes.nodes i)

@@ -22,6 +22,8 @@ use Rattle.lg_rv.specs.declared.instruction.Instr.TheVariants as rv_instr
 use Rattle.lg_rv.specs.declared.instruction.ImmOp.TheVariants.{Jalr}
 use Rattle.lg_rv.specs.declared.instruction.UpperOp.TheVariants.{Auipc}
 use Rattle.lg_sel.specs.Holes.{Each}
+use Rattle.lg_sel.specs.declared.reach.Reach.{Reach}
+use Rattle.lg_sel.specs.declared.reach.Reach.TheVariants.{Short, Near, Far}
 use Rattle.lg_x86.specs.Spelling as x86
 use Rattle.lg_x86.specs.declared.instruction.Cond.{Cond as X86Cond}
 use Rattle.lg_x86.specs.declared.instruction.Instr.{Instr as X86Instr}
@@ -122,8 +124,8 @@ IsShort target (op.Control control.Call last_operand.Immediate) goal place bytes
 IsShort target (op.Control control.Finish last_operand.Immediate) goal place bytes = IsShortCall target goal place bytes
 IsShort target o goal place bytes = ⊤
 
--- ---- the forms ahead, to a label that is not bound yet, in a buffer in which the near form leads to every place, or in a larger one. Where they lead
--- is not said: they begin at any place, with any distance
+-- ---- the forms ahead, to a label that is not bound yet, with the reach that the buffer's size asks for. Where they lead is not said: they begin at any place,
+-- with any distance
 -- x86-64: a jump on a condition of six bytes
 abbrev pub IsJumpIfAhead : ℕ → List X86Instr → Type 0
 IsJumpIfAhead from is = (cond : X86Cond) × (distance : ℤ) × (is ≡ x86_instr.JumpIfNear cond distance ∷ [])
@@ -133,47 +135,50 @@ abbrev pub IsX86JumpAhead : ℕ → List X86Instr → Type 0
 IsX86JumpAhead from is = (distance : ℤ) × (is ≡ x86_instr.JumpNear Jmp32 distance ∷ [])
 
 -- AArch64: a branch on a condition, or one over a branch
-abbrev pub IsBranchIfAhead : Bool → ℕ → List A64Instr → Type 0
-IsBranchIfAhead true from is = (cond : A64Cond) × (words : ℤ) × (is ≡ a64_instr.BranchIf cond words ∷ [])
-IsBranchIfAhead false from is =
+abbrev pub IsBranchIfAhead : Reach → ℕ → List A64Instr → Type 0
+IsBranchIfAhead Short from is = (cond : A64Cond) × (words : ℤ) × (is ≡ a64_instr.BranchIf cond words ∷ [])
+IsBranchIfAhead Near from is = (cond : A64Cond) × (words : ℤ) × (is ≡ a64_instr.BranchIf cond words ∷ [])
+IsBranchIfAhead Far from is =
     (cond : A64Cond) × (words : ℤ) × (is ≡ a64_instr.BranchIf cond (pos 2) ∷ a64_instr.Branch B words ∷ [])
 
--- RV64: a branch over a `jal`, or over `auipc` and `jalr`
-abbrev pub IsRvBranchAhead : Bool → ℕ → List RvInstr → Type 0
-IsRvBranchAhead true from is =
+-- RV64: a branch, or one over a `jal`, or over `auipc` and `jalr`
+abbrev pub IsRvBranchAhead : Reach → ℕ → List RvInstr → Type 0
+IsRvBranchAhead Short from is = (o : BranchOp) × (rs1 : ℕ) × (rs2 : ℕ) × (distance : ℤ) × (is ≡ rv_instr.Branch o rs1 rs2 distance ∷ [])
+IsRvBranchAhead Near from is =
     (o : BranchOp) × (rs1 : ℕ) × (rs2 : ℕ) × (distance : ℤ) × (is ≡ rv_instr.Branch o rs1 rs2 (pos 8) ∷ rv_instr.Jal 0 distance ∷ [])
-IsRvBranchAhead false from is =
+IsRvBranchAhead Far from is =
     (o : BranchOp) × (rs1 : ℕ) × (rs2 : ℕ) × (high : ℕ) × (low : ℤ)
     × (is ≡ rv_instr.Branch o rs1 rs2 (pos 12) ∷ rv_instr.Upper Auipc of_jumps.through high ∷ rv_instr.Imm Jalr of_jumps.holds of_jumps.through low ∷ [])
 
 -- and a `jal`, or `auipc` and `jalr`
-abbrev pub IsRvJumpAhead : RvLink → Bool → ℕ → List RvInstr → Type 0
-IsRvJumpAhead link true from is = (distance : ℤ) × (is ≡ rv_instr.Jal link.holds distance ∷ [])
-IsRvJumpAhead link false from is =
+abbrev pub IsRvJumpAhead : RvLink → Reach → ℕ → List RvInstr → Type 0
+IsRvJumpAhead link Short from is = (distance : ℤ) × (is ≡ rv_instr.Jal link.holds distance ∷ [])
+IsRvJumpAhead link Near from is = (distance : ℤ) × (is ≡ rv_instr.Jal link.holds distance ∷ [])
+IsRvJumpAhead link Far from is =
     (high : ℕ) × (low : ℤ) × (is ≡ rv_instr.Upper Auipc link.through high ∷ rv_instr.Imm Jalr link.holds link.through low ∷ [])
 
 -- ---- by target, of bytes that begin at a place
-abbrev pub IsBranchAhead : Target → Bool → ℕ → List ℕ → Type 0
-IsBranchAhead X86_64 is_near place bytes = LeadsBy x86.spelling x86.IsInstr x86_is_relative IsJumpIfAhead place bytes
-IsBranchAhead Aarch64 is_near place bytes = LeadsBy a64.spelling a64.IsInstr a64_is_relative (IsBranchIfAhead is_near) place bytes
-IsBranchAhead Riscv64 is_near place bytes = LeadsBy rv.spelling rv.IsInstr rv_is_relative (IsRvBranchAhead is_near) place bytes
+abbrev pub IsBranchAhead : Target → Reach → ℕ → List ℕ → Type 0
+IsBranchAhead X86_64 reach place bytes = LeadsBy x86.spelling x86.IsInstr x86_is_relative IsJumpIfAhead place bytes
+IsBranchAhead Aarch64 reach place bytes = LeadsBy a64.spelling a64.IsInstr a64_is_relative (IsBranchIfAhead reach) place bytes
+IsBranchAhead Riscv64 reach place bytes = LeadsBy rv.spelling rv.IsInstr rv_is_relative (IsRvBranchAhead reach) place bytes
 
 -- a jump has one form on AArch64
-abbrev pub IsJumpAhead : Target → Bool → ℕ → List ℕ → Type 0
-IsJumpAhead X86_64 is_near place bytes = LeadsBy x86.spelling x86.IsInstr x86_is_relative IsX86JumpAhead place bytes
-IsJumpAhead Aarch64 is_near place bytes = ⊤
-IsJumpAhead Riscv64 is_near place bytes = LeadsBy rv.spelling rv.IsInstr rv_is_relative (IsRvJumpAhead of_jumps is_near) place bytes
+abbrev pub IsJumpAhead : Target → Reach → ℕ → List ℕ → Type 0
+IsJumpAhead X86_64 reach place bytes = LeadsBy x86.spelling x86.IsInstr x86_is_relative IsX86JumpAhead place bytes
+IsJumpAhead Aarch64 reach place bytes = ⊤
+IsJumpAhead Riscv64 reach place bytes = LeadsBy rv.spelling rv.IsInstr rv_is_relative (IsRvJumpAhead of_jumps reach) place bytes
 
 -- a call has one form on the other targets
-abbrev pub IsCallAhead : Target → Bool → ℕ → List ℕ → Type 0
-IsCallAhead Riscv64 is_near place bytes = LeadsBy rv.spelling rv.IsInstr rv_is_relative (IsRvJumpAhead of_calls is_near) place bytes
-IsCallAhead target is_near place bytes = ⊤
+abbrev pub IsCallAhead : Target → Reach → ℕ → List ℕ → Type 0
+IsCallAhead Riscv64 reach place bytes = LeadsBy rv.spelling rv.IsInstr rv_is_relative (IsRvJumpAhead of_calls reach) place bytes
+IsCallAhead target reach place bytes = ⊤
 
 -- of a node with this operation, whose first operand is the label
-abbrev pub IsAhead : Target → Bool → Op → ℕ → List ℕ → Type 0
-IsAhead target is_near (op.Branch o last) place bytes = IsBranchAhead target is_near place bytes
-IsAhead target is_near (op.BranchSum o last) place bytes = IsBranchAhead target is_near place bytes
-IsAhead target is_near (op.Control control.Jmp last_operand.Immediate) place bytes = IsJumpAhead target is_near place bytes
-IsAhead target is_near (op.Control control.Call last_operand.Immediate) place bytes = IsCallAhead target is_near place bytes
-IsAhead target is_near (op.Control control.Finish last_operand.Immediate) place bytes = IsCallAhead target is_near place bytes
-IsAhead target is_near o place bytes = ⊤
+abbrev pub IsAhead : Target → Reach → Op → ℕ → List ℕ → Type 0
+IsAhead target reach (op.Branch o last) place bytes = IsBranchAhead target reach place bytes
+IsAhead target reach (op.BranchSum o last) place bytes = IsBranchAhead target reach place bytes
+IsAhead target reach (op.Control control.Jmp last_operand.Immediate) place bytes = IsJumpAhead target reach place bytes
+IsAhead target reach (op.Control control.Call last_operand.Immediate) place bytes = IsCallAhead target reach place bytes
+IsAhead target reach (op.Control control.Finish last_operand.Immediate) place bytes = IsCallAhead target reach place bytes
+IsAhead target reach o place bytes = ⊤

@@ -17,5 +17,5 @@ pub use bytes::Bytes;
 pub use emission::append;
 pub use item::Item;
 pub use items::Items;
-pub use reach::{NEAR_SIZE, Reach, lead};
+pub use reach::{NEAR_SIZE, Reach, SMALL_SIZE, lead};
 pub use shortest::{Emitter, ItemList, shortest_items};

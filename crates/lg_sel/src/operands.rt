@@ -1,14 +1,14 @@
 //! What a target's code asks of a node's operands and of the arguments that are staged.
 
-ghost use Rattle.std.specs.Prelude.{◌≡◌, ◌≢◌, ℕ, ◌≤◌, nat_le, if◌then◌else◌, Some, None, length, slice_get};
+ghost use Rattle.std.specs.Prelude.{◌≡◌, ◌≢◌, ℕ, ◌≤◌, Some, None, length, slice_get};
 ghost use Rattle.lg_base.specs.Layout.{most_code};
 ghost use Rattle.lg_buf.specs.Buffers.{place_of};
 ghost use Rattle.lg_op.specs.declared.operand.Label.{Label};
 ghost use Rattle.lg_carry.specs.Nodes.Operands.{NameBelow, HasWord, HaveWords};
-ghost use Rattle.lg_sel.specs.Reaches.{near_size};
+ghost use Rattle.lg_sel.specs.Reaches.{reach_ahead};
 ghost use Rattle.lg_sel.specs.Families.{staged_count};
 
-use crate::{NEAR_SIZE, Reach};
+use crate::{NEAR_SIZE, Reach, SMALL_SIZE};
 use lg_buf::{CodeBuf, CodeLabel};
 use lg_op::Operand;
 use lg_temp::Staged;
@@ -16,11 +16,13 @@ use lg_temp::Staged;
 // The most bytes of code.
 const MOST_CODE: u32 = 0x400_0000;
 
-// The reach of code that leads forward in a buffer of this size.
-fn forward_reach(size: u32) -> Reach
-    ensures { result ≡ (if nat_le size near_size then Reach.Near else Reach.Far) }
+// The reach with which code that leads ahead begins in a buffer of this size.
+fn reach_ahead(size: u32) -> Reach
+    ensures { result ≡ reach_ahead size }
 {
-    if size <= NEAR_SIZE {
+    if size <= SMALL_SIZE {
+        Reach::Short
+    } else if size <= NEAR_SIZE {
         Reach::Near
     } else {
         Reach::Far
@@ -35,7 +37,7 @@ pub fn first_reach(operands: &[Operand], buf: &CodeBuf) -> Reach
     ensures bound { (l : Label) (goal : ℕ) → slice_get operands.now 0 ≡ Some (Operand.Label l) → place_of buf.now.labels l.0 ≡ Some goal
         → length buf.now.bytes ≤ most_code → result ≡ Reach.Short }
     ensures ahead { (l : Label) → slice_get operands.now 0 ≡ Some (Operand.Label l) → place_of buf.now.labels l.0 ≡ None
-        → length buf.now.bytes ≤ most_code → result ≡ (if nat_le buf.now.size near_size then Reach.Near else Reach.Far) }
+        → length buf.now.bytes ≤ most_code → result ≡ reach_ahead buf.now.size }
 {
     if buf.here() > MOST_CODE {
         return Reach::Far;
@@ -43,7 +45,7 @@ pub fn first_reach(operands: &[Operand], buf: &CodeBuf) -> Reach
     match operands {
         [Operand::Label(label), ..] => match buf.bound(CodeLabel(label.0)) {
             Some(_) => Reach::Short,
-            None => forward_reach(buf.size()),
+            None => reach_ahead(buf.size()),
         },
         _ => Reach::Far,
     }

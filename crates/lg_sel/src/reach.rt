@@ -18,7 +18,10 @@ pub enum Reach {
     Far,
 }
 
-/// The largest size of a buffer in which a field that reaches 1 MiB leads to every place, in bytes.
+/// The largest size of a buffer in which RV64's branch word leads to every place that is fewer bytes away, in bytes.
+pub const SMALL_SIZE: u32 = 0x1000;
+
+/// The largest size of a buffer in which a field that reaches 1 MiB leads to every place that is fewer bytes away, in bytes.
 pub const NEAR_SIZE: u32 = 0x10_0000;
 
 // Whether a field of the kind may wait for a label that is not bound yet, in a buffer of this size.
@@ -26,7 +29,8 @@ fn may_wait(kind: FixKind, size: u32) -> bool
     ensures { result ≡ may_wait kind size }
 {
     match kind {
-        FixKind::X86Rel8 | FixKind::RvBranch => false,
+        FixKind::X86Rel8 => false,
+        FixKind::RvBranch => size <= SMALL_SIZE,
         FixKind::RvJal | FixKind::A64Cond19 => size <= NEAR_SIZE,
         _ => true,
     }

@@ -47,17 +47,17 @@ use Rattle.lg_sela_values.specs.declared.items.Item.{Item}
 use Rattle.lg_sela_values.specs.declared.items.Item.TheVariants.{One, Branch, CondBranch, Address}
 use Rattle.lg_temp.specs.declared.choice.Choice.{Choice}
 
-pub selected-carries : (homes : ℕ) (reach : Reach) (node : Node) (frame : ℕ) (live : Reg → Bool) (staged : List Bool) (choices : List Choice) (old new : Buffer) (items : List Item) → IsFrame frame → IsAsked node live staged choices (length old.labels)
-    → items ≡ node_items homes reach node frame choices staged (length old.bytes) → words_in items ≤ 64 → AreAppended old new items → length old.bytes % 4 ≡ 0 → IsCarriedWhenFinished Aarch64 node frame homes live staged old new
-selected-carries homes reach node frame live staged choices old new items sized asked e few appended whole code trash c i word f n =
+pub selected-carries : (homes saved : ℕ) (reach : Reach) (node : Node) (frame : ℕ) (live : Reg → Bool) (staged : List Bool) (choices : List Choice) (old new : Buffer) (items : List Item) → IsFrame frame → IsAsked node live staged choices (length old.labels)
+    → items ≡ node_items homes saved reach node frame choices staged (length old.bytes) → words_in items ≤ 64 → AreAppended old new items → length old.bytes % 4 ≡ 0 → IsCarriedWhenFinished Aarch64 node frame homes saved live staged old new
+selected-carries homes saved reach node frame live staged choices old new items sized asked e few appended whole code trash c i word f n =
     let place : ℕ = length old.bytes in
-    let mine : List Item = node_items homes reach node frame choices staged place in
-    let fit = items-fit homes reach frame live staged choices (length old.labels) place node sized asked in
+    let mine : List Item = node_items homes saved reach node frame choices staged place in
+    let fit = items-fit homes saved reach frame live staged choices (length old.labels) place node sized asked in
     let a : AreAppended old new mine = subst (AreAppended old new) e appended in
     let short : words_in mine ≤ 64 = subst (λ l. words_in l ≤ 64) e few in
-    items-carry reach code trash c i frame homes live staged choices (length old.labels) place node
+    items-carry reach code trash c i frame homes saved live staged choices (length old.labels) place node
     record { node = n; asked = asked; address = f.here }
-    (are-of-node old new code trash c i mine word a fit.instrs (subst (λ b. StayWithin b mine) (sym (ap (moves_at Aarch64) n.text.here)) (items-within homes reach frame live staged choices (length old.labels) place node asked)) short whole f)
+    (are-of-node old new code trash c i mine word a fit.instrs (subst (λ b. StayWithin b mine) (sym (ap (moves_at Aarch64) n.text.here)) (items-within homes saved reach frame live staged choices (length old.labels) place node asked)) short whole f)
 
 -- ---- what was appended
 -- 64 instructions have at most 256 bytes
@@ -70,23 +70,23 @@ appended-whole b old new items refused went even =
     let size = blank_bytes items in appended-by b old new (blanks items) refused went (λ k. k % 4 ≡ 0) even (omega (arith, size, even))
 
 -- a `prolog` has some
-prolog-some : (homes : ℕ) (reach : Reach) (o : Op) (xs : List Operand) (line frame : ℕ) (choices : List Choice) (staged : List Bool) (place : ℕ) → is_prolog o ≡ true → 0 < words_in (node_items homes reach (node_of o xs line) frame choices staged place)
-prolog-some homes reach (op.Plain plain.Prolog) xs line frame choices staged place is = by (is_near frame)
+prolog-some : (homes saved : ℕ) (reach : Reach) (o : Op) (xs : List Operand) (line frame : ℕ) (choices : List Choice) (staged : List Bool) (place : ℕ) → is_prolog o ≡ true → 0 < words_in (node_items homes saved reach (node_of o xs line) frame choices staged place)
+prolog-some homes saved reach (op.Plain plain.Prolog) xs line frame choices staged place is = by (is_near frame)
   where
-    by : (b : Bool) → 0 < words_in (ones (if b then framed_code frame homes [] else framed_code 112 homes (fall_code (frame - 112))))
+    by : (b : Bool) → 0 < words_in (ones (if b then framed_code saved frame homes [] else framed_code saved 112 homes (fall_code (frame - 112))))
     by true = omega arith
     by false = omega arith
-prolog-some homes reach o xs line frame choices staged place is = cc
+prolog-some homes saved reach o xs line frame choices staged place is = cc
 
 -- the items of each node, as `select` asks for them
-pub a64-selection : (homes : ℕ) → IsSelection Aarch64 needs a64_holes spelling IsInstr IsItem a64_stores Names (a64_families homes)
-a64-selection homes = record {
+pub a64-selection : (homes saved : ℕ) → IsSelection Aarch64 needs a64_holes spelling IsInstr IsItem a64_stores Names (a64_families homes saved)
+a64-selection homes saved = record {
   holes = are-holes;
-  emits = node-emits homes;
-  fit = λ reach frame live staged choices labels place n sized asked. (items-fit homes reach frame live staged choices labels place n sized asked).instrs;
+  emits = node-emits homes saved;
+  fit = λ reach frame live staged choices labels place n sized asked. (items-fit homes saved reach frame live staged choices labels place n sized asked).instrs;
   begins = λ reach o xs line frame choices staged place is.
-      let some = prolog-some homes reach o xs line frame choices staged place is in
-      let size = blank_bytes (node_items homes reach (node_of o xs line) frame choices staged place) in omega (arith, some, size);
+      let some = prolog-some homes saved reach o xs line frame choices staged place is in
+      let size = blank_bytes (node_items homes saved reach (node_of o xs line) frame choices staged place) in omega (arith, some, size);
 }
 
 -- ---- fixes
@@ -117,20 +117,20 @@ module _ (n : Node) (old : Buffer) where
   whole (CondBranch cond label) place h = omega (arith, h)
   whole (Address rd label) place h = omega (arith, h)
 
-  pub appended-lead : (homes : ℕ) (reach : Reach) (frame : ℕ) (choices : List Choice) (staged : List Bool) (new : Buffer) (items : List Item) → items ≡ node_items homes reach n frame choices staged (length old.bytes)
+  pub appended-lead : (homes saved : ℕ) (reach : Reach) (frame : ℕ) (choices : List Choice) (staged : List Bool) (new : Buffer) (items : List Item) → items ≡ node_items homes saved reach n frame choices staged (length old.bytes)
       → new.fixes ≡ old.fixes ++ fixes_of (length old.bytes) items → length old.bytes % 4 ≡ 0 → Each (IsChecked reach old) (fixes_of (length old.bytes) items)
       → All (IsFixOf 4 old n) (drop (length old.fixes) new.fixes)
-  appended-lead homes reach frame choices staged new items e fixes even checked =
-      let emits = node-emits homes reach frame choices staged (length old.bytes) n in
+  appended-lead homes saved reach frame choices staged new items e fixes even checked =
+      let emits = node-emits homes saved reach frame choices staged (length old.bytes) n in
       fixes-of-lead a64_holes 4 n old (Names reach (names n.operands)) (IsChecked reach old) whole (leads reach) new items fixes even
       (subst (Each (Names reach (names n.operands))) (sym e) emits.named) checked
 
 -- ---- alignments
-pub aligned-behind : (homes : ℕ) (reach : Reach) (b : Bool) (node : Node) (frame : ℕ) (choices : List Choice) (staged : List Bool) (old new : Buffer) (items : List Item) → InForm node → items ≡ node_items homes reach node frame choices staged (length old.bytes)
+pub aligned-behind : (homes saved : ℕ) (reach : Reach) (b : Bool) (node : Node) (frame : ℕ) (choices : List Choice) (staged : List Bool) (old new : Buffer) (items : List Item) → InForm node → items ≡ node_items homes saved reach node frame choices staged (length old.bytes)
     → (IsTrue b → new.bytes ≡ old.bytes ++ blanks items) → length old.bytes % 4 ≡ 0 → IsTrue b → IsAligned node (length new.bytes)
-aligned-behind homes reach b node frame choices staged old new items formed e bytes even went n is xs =
+aligned-behind homes saved reach b node frame choices staged old new items formed e bytes even went n is xs =
     let place : ℕ = length old.bytes in
-    let made : Op → List Operand → List Item = λ o ys. node_items homes reach record { op = o; operands = ys; line = node.line } frame choices staged place in
+    let made : Op → List Operand → List Item = λ o ys. node_items homes saved reach record { op = o; operands = ys; line = node.line } frame choices staged place in
     let same : items ≡ ones (align_code place n) = e ∙ (λ j. made (is j) (xs j)) in
     let admitted : admit (forms_of (op.Plain plain.Align)) (operand.Number n ∷ []) ≡ true = subst (λ (p : Op × List Operand). admit (forms_of p.0) p.1 ≡ true) (λ j. (is j, xs j)) formed.forms in
     let long = ap length (bytes went) ∙ length-append old.bytes (blanks items) in

@@ -1,5 +1,5 @@
 -- The items of the nodes that branch, jump, call and return, of `prolog`, `.align` and of those without code; none but those of a `prolog` store.
-use Rattle.std.proofs.Common.{◌≡◌, ℕ, zero, suc, ◌-◌, ◌≤◌, Bool, true, false, List, [], ◌∷◌, refl, arith, length}
+use Rattle.std.proofs.Common.{◌≡◌, ℕ, zero, suc, ◌+◌, ◌-◌, ◌≤◌, Bool, true, false, List, [], ◌∷◌, ◌++◌, refl, arith, length}
 use Rattle.std.specs.Prelude.{◌/◌, ◌%◌, pos, nat_lt, if◌then◌else◌}
 use Rattle.lg_a64.specs.declared.instruction.BranchOp.TheVariants.{B, Bl}
 use Rattle.lg_a64.specs.declared.instruction.BranchRegOp.{BranchRegOp}
@@ -38,10 +38,10 @@ use Rattle.lg_base.specs.Words.{negated}
 use Rattle.lg_sela_values.specs.BinaryCode.{is_small}
 use Rattle.lg_sela.specs.Control.Branches.{comparison, is_held, number_comparison, taken, turned}
 use Rattle.lg_sela.specs.Control.ControlItems.{second_register, word_items, second_items, compared_items, comparing, leads_items, branch_if_items, branch_items, sum_items, jump_items, call_items, result_items, ret_items, register_leap_items, leap_items, align_items, control_items}
-use Rattle.lg_sela.specs.Control.Prologs.{prolog_code, framed_code, is_near, stored_registers, store_word}
-use Rattle.lg_sel.proofs.OfControl.StoreLemmas.{stored-few}
+use Rattle.lg_sela.specs.Control.Prologs.{prolog_code, framed_code, is_near, first_registers, home_registers, stores_below, store_word}
+use Rattle.lg_sel.proofs.OfControl.StoreLemmas.{first-few, homes-few, stores-long}
 use Rattle.lg_sela.specs.Control.RegisterLeaps.{register_leap_code}
-use Rattle.lg_sela.specs.Control.Returns.{result, near_return, far_return, return_code}
+use Rattle.lg_sela.specs.Control.Returns.{result, restores, link_load, near_return, far_return, leaving_code, return_code}
 use Rattle.lg_sela.specs.Control.SumBranches.{sum_instruction, sum_taken}
 use Rattle.lg_sela_values.specs.declared.items.Item.{Item}
 use Rattle.lg_sela_values.specs.declared.items.Item.TheVariants.{Branch}
@@ -79,16 +79,23 @@ idle-none zero = refl
 idle-none (suc k) = idle-none k
 
 -- a `prolog` stores at most 13 registers
-prolog-few : (frame homes : ℕ) → stores.stores_among a64_stores (prolog_code frame homes) ≤ 16
-prolog-few frame homes = by (is_near frame) (nat_lt (frame - 112) 4096)
+prolog-few : (saved frame homes : ℕ) → stores.stores_among a64_stores (prolog_code saved frame homes) ≤ 16
+prolog-few saved frame homes = by (is_near frame) (nat_lt (frame - 112) 4096)
   where
-    framed : (first : ℕ) (rest : List Instr) → NoneStores rest → stores.stores_among a64_stores (framed_code first homes rest) ≤ 16
+    framed : (first : ℕ) (rest : List Instr) → NoneStores rest → stores.stores_among a64_stores (framed_code saved first homes rest) ≤ 16
     framed first rest free =
-        let h : stores.stores_among a64_stores (framed_code first homes rest) ≤ length (stored_registers homes) =
-        stores.among-stores a64_stores (store_word first) (stored_registers homes) 0 (instr.Imm Addi frame_pointer stack_pointer (first - 16) false ∷ rest) free in
-        let few = stored-few Aarch64 link homes in omega (arith, h, few)
+        let front : List Instr = stores_below first (first_registers saved) 0 in
+        let end : List Instr = instr.Imm Addi frame_pointer stack_pointer (first - 16) false ∷ rest in
+        let back : List Instr = stores_below first (home_registers homes) 5 ++ end in
+        let both : stores.stores_among a64_stores (framed_code saved first homes rest) ≡ stores.stores_among a64_stores front + stores.stores_among a64_stores back =
+        stores.among-append a64_stores front back in
+        let most = stores.among-length a64_stores front in
+        let long = stores-long (store_word first) (first_registers saved) 0 in
+        let h : stores.stores_among a64_stores back ≤ length (home_registers homes) = stores.among-stores a64_stores (store_word first) (home_registers homes) 5 end free in
+        let few = first-few Aarch64 link saved in
+        let places = homes-few Aarch64 homes in omega (arith, both, most, long, h, few, places)
 
-    by : (b b' : Bool) → stores.stores_among a64_stores (if b then framed_code frame homes [] else framed_code 112 homes
+    by : (b b' : Bool) → stores.stores_among a64_stores (if b then framed_code saved frame homes [] else framed_code saved 112 homes
         (if b' then instr.Imm Subi stack_pointer stack_pointer (frame - 112) false ∷ []
         else instr.Imm Subi stack_pointer stack_pointer ((frame - 112) / 4096 % 4096) true ∷ instr.Imm Subi stack_pointer stack_pointer ((frame - 112) % 4096) false ∷ [])) ≤ 16
     by true b' = framed frame [] refl
@@ -102,10 +109,17 @@ leads-emit Near is holds l h = branch_if Near is holds l.0 h
 leads-emit Far is holds l h = front Far is 1 0 (instr.BranchIf (turned holds) (pos 2) ∷ []) (Branch B l.0 ∷ []) refl (branch Far is B l.0 h)
 
 -- ---- items
-return-none : (frame : ℕ) → NoneStores (return_code frame)
-return-none frame = by (nat_lt frame 4096)
+restores-none : (saved : ℕ) → NoneStores (restores saved)
+restores-none zero = refl
+restores-none (suc zero) = refl
+restores-none (suc (suc zero)) = refl
+restores-none (suc (suc (suc zero))) = refl
+restores-none (suc (suc (suc (suc n)))) = refl
+
+return-none : (saved frame : ℕ) → NoneStores (return_code saved frame)
+return-none saved frame = stores.none-append a64_stores (restores saved) (leaving_code frame) (restores-none saved) (by (nat_lt frame 4096))
   where
-    by : (b : Bool) → NoneStores (if b then near_return frame else far_return)
+    by : (b : Bool) → NoneStores (link_load ∷ (if b then near_return frame else far_return))
     by true = refl
     by false = refl
 
@@ -167,41 +181,41 @@ module _ (reach : Reach) (is : ℕ → Bool) where
   result-emits (operand.Host name) h = wider (result_items (operand.Host name)) (word result (operand.Host name))
   result-emits (operand.Slot k) h = wider (result_items (operand.Slot k)) (word result (operand.Slot k))
 
-  returned : (frame : ℕ) (xs : List Operand) → AllPass is xs → Emits reach is 1 0 (ret_items frame xs)
-  returned frame (x ∷ []) h = behind reach is 1 0 (result_items x) (return_code frame) (result-emits x h.0) (return-none frame)
-  returned frame xs h = none reach is 1 0
+  returned : (frame saved : ℕ) (xs : List Operand) → AllPass is xs → Emits reach is 1 0 (ret_items frame saved xs)
+  returned frame saved (x ∷ []) h = behind reach is 1 0 (result_items x) (return_code saved frame) (result-emits x h.0) (return-none saved frame)
+  returned frame saved xs h = none reach is 1 0
 
   leapt : (o : BranchRegOp) (xs : List Operand) → Emits reach is 1 0 (register_leap_items o xs)
   leapt o (operand.Reg a ∷ []) = plain reach is 1 (register_leap_code o a) refl
   leapt o xs = none reach is 1 0
 
-  leaps : (frame : ℕ) (o : ControlOp) (last : LastOperand) (xs : List Operand) → AllPass is xs → Emits reach is 1 0 (leap_items frame o last xs)
-  leaps frame control.Jmp last_operand.Immediate xs h = jumped xs h
-  leaps frame control.Jmp last_operand.Register xs h = leapt Br xs
-  leaps frame control.Call last_operand.Immediate xs h = called xs h
-  leaps frame control.Call last_operand.Register xs h = leapt Blr xs
-  leaps frame control.Finish last_operand.Immediate xs h = called xs h
-  leaps frame control.Finish last_operand.Register xs h = leapt Blr xs
-  leaps frame control.Ret last xs h = returned frame xs h
-  leaps frame control.Pusharg last xs h = none reach is 1 0
+  leaps : (frame saved : ℕ) (o : ControlOp) (last : LastOperand) (xs : List Operand) → AllPass is xs → Emits reach is 1 0 (leap_items frame saved o last xs)
+  leaps frame saved control.Jmp last_operand.Immediate xs h = jumped xs h
+  leaps frame saved control.Jmp last_operand.Register xs h = leapt Br xs
+  leaps frame saved control.Call last_operand.Immediate xs h = called xs h
+  leaps frame saved control.Call last_operand.Register xs h = leapt Blr xs
+  leaps frame saved control.Finish last_operand.Immediate xs h = called xs h
+  leaps frame saved control.Finish last_operand.Register xs h = leapt Blr xs
+  leaps frame saved control.Ret last xs h = returned frame saved xs h
+  leaps frame saved control.Pusharg last xs h = none reach is 1 0
 
   aligned : (at : ℕ) (xs : List Operand) → Emits reach is 1 0 (align_items at xs)
   aligned at (operand.Number n ∷ []) = plain reach is 1 (align_code at n) (idle-none (padding at n))
   aligned at xs = none reach is 1 0
 
-  pub controls-emit : (o : Op) (xs : List Operand) (frame homes at : ℕ) → is_free o ≡ false → AllPass is xs → Emits reach is 1 0 (control_items reach o xs frame homes at)
-  controls-emit (op.Branch o last) xs frame homes at other h = branched o xs h
-  controls-emit (op.BranchSum o last) xs frame homes at other h = summed o xs h
-  controls-emit (op.Control o last) xs frame homes at other h = leaps frame o last xs h
-  controls-emit (op.Plain plain_op.Prolog) xs frame homes at other h = cc
-  controls-emit (op.Plain plain_op.Epilog) xs frame homes at other h = plain reach is 1 (return_code frame) (return-none frame)
-  controls-emit (op.Plain plain_op.Ret) xs frame homes at other h = plain reach is 1 (return_code frame) (return-none frame)
-  controls-emit (op.Plain plain_op.Align) xs frame homes at other h = aligned at xs
-  controls-emit (op.Plain plain_op.Movi) xs frame homes at other h = none reach is 1 0
-  controls-emit (op.Plain o) xs frame homes at other h = none reach is 1 0
-  controls-emit o xs frame homes at other h = none reach is 1 0
+  pub controls-emit : (o : Op) (xs : List Operand) (frame homes saved at : ℕ) → is_free o ≡ false → AllPass is xs → Emits reach is 1 0 (control_items reach o xs frame homes saved at)
+  controls-emit (op.Branch o last) xs frame homes saved at other h = branched o xs h
+  controls-emit (op.BranchSum o last) xs frame homes saved at other h = summed o xs h
+  controls-emit (op.Control o last) xs frame homes saved at other h = leaps frame saved o last xs h
+  controls-emit (op.Plain plain_op.Prolog) xs frame homes saved at other h = cc
+  controls-emit (op.Plain plain_op.Epilog) xs frame homes saved at other h = plain reach is 1 (return_code saved frame) (return-none saved frame)
+  controls-emit (op.Plain plain_op.Ret) xs frame homes saved at other h = plain reach is 1 (return_code saved frame) (return-none saved frame)
+  controls-emit (op.Plain plain_op.Align) xs frame homes saved at other h = aligned at xs
+  controls-emit (op.Plain plain_op.Movi) xs frame homes saved at other h = none reach is 1 0
+  controls-emit (op.Plain o) xs frame homes saved at other h = none reach is 1 0
+  controls-emit o xs frame homes saved at other h = none reach is 1 0
 
   -- a `prolog` has no fix
-  pub prologs-emit : (o : Op) (xs : List Operand) (frame homes at : ℕ) → is_free o ≡ true → Emits reach is 1 16 (control_items reach o xs frame homes at)
-  prologs-emit (op.Plain plain_op.Prolog) xs frame homes at free = instructions reach is 1 16 (prolog_code frame homes) (prolog-few frame homes)
-  prologs-emit o xs frame homes at free = cc
+  pub prologs-emit : (o : Op) (xs : List Operand) (frame homes saved at : ℕ) → is_free o ≡ true → Emits reach is 1 16 (control_items reach o xs frame homes saved at)
+  prologs-emit (op.Plain plain_op.Prolog) xs frame homes saved at free = instructions reach is 1 16 (prolog_code saved frame homes) (prolog-few saved frame homes)
+  prologs-emit o xs frame homes saved at free = cc

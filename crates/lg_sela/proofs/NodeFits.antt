@@ -45,33 +45,33 @@ choices-fit n live staged choices k =
     (values.few, values.slots)
 
 -- ---- labels, fixes and stores
-families-emit : (homes : ℕ) (reach : Reach) → emission.FamiliesEmit Aarch64 a64_holes a64_stores (Names reach) (a64_families homes reach)
-families-emit homes reach = record {
+families-emit : (homes saved : ℕ) (reach : Reach) → emission.FamiliesEmit Aarch64 a64_holes a64_stores (Names reach) (a64_families homes saved reach)
+families-emit homes saved reach = record {
   values = λ is frame n choices h. values-emit reach is n choices h;
   loads = λ is frame t at n choices. more reach is 1 1 0 (spills choices) (ones (load_code t at n)) (omega arith) (omega arith) (loads-emit reach is t at n);
   stores = λ is frame t at n choices. more reach is 1 1 1 (spills choices + 1) (ones (store_code t at n)) (omega arith) (omega arith) (stores-emit reach is t at n);
   arguments = λ is frame t n. arguments-emit reach is t n;
   next_arguments = λ is n. next-arguments-emit reach is n;
   pushes = λ is frame j n h. pushes-emit reach is j n h;
-  controls = λ is o xs frame at. controls-emit reach is o xs frame homes at;
-  prologs = λ is o xs frame at. prologs-emit reach is o xs frame homes at;
+  controls = λ is o xs frame at. controls-emit reach is o xs frame homes saved at;
+  prologs = λ is o xs frame at. prologs-emit reach is o xs frame homes saved at;
 }
 
-pub node-emits : (homes : ℕ) (reach : Reach) (frame : ℕ) (choices : List Choice) (staged : List Bool) (place : ℕ) (n : Node) → Emits reach (names n.operands) 1 (allowed Aarch64 choices n.op) (node_items homes reach n frame choices staged place)
-node-emits homes reach frame choices staged place n = emission.node-emits Aarch64 a64_holes a64_stores (Names reach) (a64_families homes reach) (families-emit homes reach) frame choices staged place n (names n.operands) (all-self n.operands)
+pub node-emits : (homes saved : ℕ) (reach : Reach) (frame : ℕ) (choices : List Choice) (staged : List Bool) (place : ℕ) (n : Node) → Emits reach (names n.operands) 1 (allowed Aarch64 choices n.op) (node_items homes saved reach n frame choices staged place)
+node-emits homes saved reach frame choices staged place n = emission.node-emits Aarch64 a64_holes a64_stores (Names reach) (a64_families homes saved reach) (families-emit homes saved reach) frame choices staged place n (names n.operands) (all-self n.operands)
 
 -- ---- ranges
-abbrev Fit : ℕ → Reach → ℕ → List Item → Type 0
-Fit homes reach labels xs = fit.Fit Aarch64 needs (a64_families homes reach) IsItem NamesOneOf labels xs
+abbrev Fit : ℕ → ℕ → Reach → ℕ → List Item → Type 0
+Fit homes saved reach labels xs = fit.Fit Aarch64 needs (a64_families homes saved reach) IsItem NamesOneOf labels xs
 
 -- those of values
-values : (homes : ℕ) (reach : Reach) (labels : ℕ) (n : Node) (live : Reg → Bool) (set : List Bool) (choices : List Choice) → AreFor (around Aarch64 n live set) (needs n.op) [] (needs n.op) choices → NameBelow labels n.operands → Fit homes reach labels (value_items n choices)
-values homes reach labels n live set choices are named =
+values : (homes saved : ℕ) (reach : Reach) (labels : ℕ) (n : Node) (live : Reg → Bool) (set : List Bool) (choices : List Choice) → AreFor (around Aarch64 n live set) (needs n.op) [] (needs n.op) choices → NameBelow labels n.operands → Fit homes saved reach labels (value_items n choices)
+values homes saved reach labels n live set choices are named =
     record { instrs = (value-items-fit n live set choices are).fit; names = value-items-name labels n choices named }
 
-families-fit : (homes : ℕ) (reach : Reach) (labels : ℕ) → fit.FamiliesFit Aarch64 needs (a64_families homes reach) IsItem NamesOneOf labels
-families-fit homes reach labels = record {
-  values = λ frame n live set choices sized is are named words. values homes reach labels n live set choices are named;
+families-fit : (homes saved : ℕ) (reach : Reach) (labels : ℕ) → fit.FamiliesFit Aarch64 needs (a64_families homes saved reach) IsItem NamesOneOf labels
+families-fit homes saved reach labels = record {
+  values = λ frame n live set choices sized is are named words. values homes saved reach labels n live set choices are named;
   loads = λ frame n t at live set choices sized e are words. record { instrs = (memory-items-fit.loads t at n).appendable.fit; names = memory-items-name.loads labels t at n };
   stores = λ frame n t at live set choices sized e are words. record { instrs = (memory-items-fit.stores t at n).appendable.fit; names = memory-items-name.stores labels t at n };
   next_arguments = λ n. record { instrs = (memory-items-fit.next_arguments n).appendable.fit; names = memory-items-name.next_arguments labels n };
@@ -79,7 +79,7 @@ families-fit homes reach labels = record {
   pushes = λ frame n j sized few named word.
       record { instrs = (memory-items-fit.pushes j n few).appendable.fit; names = memory-items-name.pushes labels j n (passed labels (operand_at n 0) named) };
   controls = λ n frame place sized is formed named words ends.
-      let emitted = control-items-fit reach n labels frame homes place is formed (are-given labels n.operands named words) ends in
+      let emitted = control-items-fit reach n labels frame homes saved place is formed (are-given labels n.operands named words) ends in
       record { instrs = emitted.items; names = emitted.labels };
 }
 
@@ -89,26 +89,26 @@ pub record AreEmittable (labels : ℕ) (items : List Item) : Type 0 where
   pub names : NameLabels labels items
   pub fixed : (p : ℕ) → length (fixes_of p items) ≤ 1
 
-pub items-fit : (homes : ℕ) (reach : Reach) (frame : ℕ) (live : Reg → Bool) (staged : List Bool) (choices : List Choice) (labels place : ℕ) (n : Node) → IsFrame frame → IsAsked n live staged choices labels → AreEmittable labels (node_items homes reach n frame choices staged place)
-items-fit homes reach frame live staged choices labels place n sized k =
-    let fits = fit.items-fit Aarch64 needs (a64_families homes reach) IsItem NamesOneOf labels (families-fit homes reach labels) frame sized live staged choices place n k in
-    record { instrs = fits.instrs; names = fits.names; fixed = (node-emits homes reach frame choices staged place n).fixed }
+pub items-fit : (homes saved : ℕ) (reach : Reach) (frame : ℕ) (live : Reg → Bool) (staged : List Bool) (choices : List Choice) (labels place : ℕ) (n : Node) → IsFrame frame → IsAsked n live staged choices labels → AreEmittable labels (node_items homes saved reach n frame choices staged place)
+items-fit homes saved reach frame live staged choices labels place n sized k =
+    let fits = fit.items-fit Aarch64 needs (a64_families homes saved reach) IsItem NamesOneOf labels (families-fit homes saved reach labels) frame sized live staged choices place n k in
+    record { instrs = fits.instrs; names = fits.names; fixed = (node-emits homes saved reach frame choices staged place n).fixed }
 
 -- ---- registers
-families-stay : (homes : ℕ) (reach : Reach) → fit.FamiliesStay Aarch64 needs (a64_families homes reach) StaysWithin
-families-stay homes reach = record {
+families-stay : (homes saved : ℕ) (reach : Reach) → fit.FamiliesStay Aarch64 needs (a64_families homes saved reach) StaysWithin
+families-stay homes saved reach = record {
   values = λ frame n live set choices is are. value-items-stay n live set choices are;
   loads = λ frame t at n live set choices e are. memory-items-stay.loads t at n;
   stores = λ frame t at n live set choices e are. memory-items-stay.stores t at n;
   arguments = λ frame t n. memory-items-stay.arguments t n;
   next_arguments = λ n. memory-items-stay.next_arguments n;
   pushes = λ frame j n. memory-items-stay.pushes j n;
-  controls = λ n frame place. control-items-stay reach n frame homes place;
+  controls = λ n frame place. control-items-stay reach n frame homes saved place;
 }
 
-pub items-within : (homes : ℕ) (reach : Reach) (frame : ℕ) (live : Reg → Bool) (staged : List Bool) (choices : List Choice) (labels place : ℕ) (n : Node) → IsAsked n live staged choices labels → StayWithin (moves_stack Aarch64 n.op) (node_items homes reach n frame choices staged place)
-items-within homes reach frame live staged choices labels place n k =
-    fit.items-stay Aarch64 needs (a64_families homes reach) StaysWithin (families-stay homes reach) frame live k.chosen.set staged choices place n (fit.are-made Aarch64 needs (a64_families homes reach) n live staged choices labels k)
+pub items-within : (homes saved : ℕ) (reach : Reach) (frame : ℕ) (live : Reg → Bool) (staged : List Bool) (choices : List Choice) (labels place : ℕ) (n : Node) → IsAsked n live staged choices labels → StayWithin (moves_stack Aarch64 n.op) (node_items homes saved reach n frame choices staged place)
+items-within homes saved reach frame live staged choices labels place n k =
+    fit.items-stay Aarch64 needs (a64_families homes saved reach) StaysWithin (families-stay homes saved reach) frame live k.chosen.set staged choices place n (fit.are-made Aarch64 needs (a64_families homes saved reach) n live staged choices labels k)
 
 -- ---- what is asked of a node
 pub asked-of : (n : Node) (live : Reg → Bool) (staged : List Bool) (choices : List Choice) (labels : ℕ) (xs : List Operand) → InForm n → AreChosen n live staged choices
@@ -117,6 +117,6 @@ asked-of n live staged choices labels xs formed chosen first named takes e words
     record { formed = formed; chosen = chosen; first = first; named = named; takes = takes; words = subst HaveWords e words }
 
 -- items that are those of the node can be appended
-pub made-fits : (homes : ℕ) (reach : Reach) (frame : ℕ) (live : Reg → Bool) (staged : List Bool) (choices : List Choice) (labels place : ℕ) (n : Node) (items : List Item) → IsFrame frame
-    → IsAsked n live staged choices labels → items ≡ node_items homes reach n frame choices staged place → AreEmittable labels items
-made-fits homes reach frame live staged choices labels place n items sized k e = subst (AreEmittable labels) (sym e) (items-fit homes reach frame live staged choices labels place n sized k)
+pub made-fits : (homes saved : ℕ) (reach : Reach) (frame : ℕ) (live : Reg → Bool) (staged : List Bool) (choices : List Choice) (labels place : ℕ) (n : Node) (items : List Item) → IsFrame frame
+    → IsAsked n live staged choices labels → items ≡ node_items homes saved reach n frame choices staged place → AreEmittable labels items
+made-fits homes saved reach frame live staged choices labels place n items sized k e = subst (AreEmittable labels) (sym e) (items-fit homes saved reach frame live staged choices labels place n sized k)

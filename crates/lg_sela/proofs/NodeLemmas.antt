@@ -77,14 +77,14 @@ plain-code code trash c i n is t stays fit a =
     subst (IsInCode code trash c i) (settled-ones to (c.place i) is) (items-are-in-code code trash c i (ones is) a (falls c i n (ones is) t stays) (fit.block to (c.place i)))
 
 -- what is known of a node, of which the code begins at a place of the buffer
-pub record IsKnown (c : Code) (i : ℕ) (n : Node) (frame homes : ℕ) (live : Reg → Bool) (staged : List Bool) (choices : List Choice) (labels place : ℕ) : Type 0 where
-  pub node : IsNodeOf 4 n frame homes staged c i
+pub record IsKnown (c : Code) (i : ℕ) (n : Node) (frame homes saved : ℕ) (live : Reg → Bool) (staged : List Bool) (choices : List Choice) (labels place : ℕ) : Type 0 where
+  pub node : IsNodeOf 4 n frame homes saved staged c i
   pub asked : IsAsked n live staged choices labels
   pub address : c.place i ≡ code_base + place
 
-module _ (reach : Reach) (code : List ℕ) (trash : ℕ) (c : Code) (i frame homes : ℕ) (live : Reg → Bool) (staged : List Bool) (choices : List Choice) (labels place : ℕ) where
+module _ (reach : Reach) (code : List ℕ) (trash : ℕ) (c : Code) (i frame homes saved : ℕ) (live : Reg → Bool) (staged : List Bool) (choices : List Choice) (labels place : ℕ) where
   abbrev Carries : Node → List Item → Type 0
-  Carries n items = IsKnown c i n frame homes live staged choices labels place → AreOfNode code trash c i items → CarriesNode (a64_processor code trash) c i n (numbered live)
+  Carries n items = IsKnown c i n frame homes saved live staged choices labels place → AreOfNode code trash c i items → CarriesNode (a64_processor code trash) c i n (numbered live)
 
   values : (n : Node) → is_value n.op ≡ true → leaps n.op ≡ false → Carries n (value_items n choices)
   values n computes stays k a =
@@ -94,7 +94,7 @@ module _ (reach : Reach) (code : List ℕ) (trash : ℕ) (c : Code) (i frame hom
       value-nodes-carry code trash c i n live set choices computes (are-words c.addresses k.node.low n.operands k.asked.words) are (λ j below. k.asked.chosen.holds j (k.node.pushed_are j below)) k.node.text
       (items-are-in-code code trash c i (value_items n choices) a (falls c i n (value_items n choices) k.node.text stays) (fit.block (slice_index c.addresses) (c.place i)))
 
-  none-labels : (n : Node) (o : Op) → n.op ≡ o → may_take_label o ≡ false → leads_nowhere (forms_of o) ≡ true → IsKnown c i n frame homes live staged choices labels place → list_any is_label n.operands ≡ false
+  none-labels : (n : Node) (o : Op) → n.op ≡ o → may_take_label o ≡ false → leads_nowhere (forms_of o) ≡ true → IsKnown c i n frame homes saved live staged choices labels place → list_any is_label n.operands ≡ false
   none-labels n o e may leads k =
       no-labels (forms_of n.op) n.operands (ap (λ q. leads_nowhere (forms_of q)) e ∙ leads) (operands-are c i n k.node.text) (unlabelled n (ap may_take_label e ∙ may) k.asked.takes)
 
@@ -129,23 +129,23 @@ module _ (reach : Reach) (code : List ℕ) (trash : ℕ) (c : Code) (i frame hom
       (memory-is-carried code trash a.small a.bytes a.word).pushes c i n last frame (numbered live) e (has-words n k.asked.words) k.node.names k.node.text k.node.frame_is
       (subst (λ m. IsInCode code trash c i (settled to (c.place i) (push_code m n))) (count-is (pushed c.nodes.nodes i) staged (k.node.exact (ap is_pusharg e))) stands).block
 
-  controls : (n : Node) → is_control n.op ≡ true → Carries n (control_items reach n.op n.operands frame homes place)
+  controls : (n : Node) → is_control n.op ≡ true → Carries n (control_items reach n.op n.operands frame homes saved place)
   controls n is k a =
       let ends : ends_in_label n.operands ≡ false = control-ends n is (operands-are c i n k.node.text) k.asked.takes in
       let to : ℕ → ℕ = slice_index c.addresses in
-      let items = control_items reach n.op n.operands frame homes place in
-      let fit : AreEmitted labels (leaps n.op) items = control-items-fit reach n labels frame homes place is (k.node.text.formed n k.node.text.here) (are-given labels n.operands k.asked.named k.asked.words) ends in
+      let items = control_items reach n.op n.operands frame homes saved place in
+      let fit : AreEmitted labels (leaps n.op) items = control-items-fit reach n labels frame homes saved place is (k.node.text.formed n k.node.text.here) (are-given labels n.operands k.asked.named k.asked.words) ends in
       let stands : StandsInCode code trash c i (settled to (c.place i) items) = record {
         small = a.small;
         bytes = a.bytes;
         word = a.word;
         node = items-are-node-code code trash c i items a (λ leaping. fit.some (sym (ap leaps_at k.node.text.here) ∙ leaping));
       } in
-      let same : items ≡ control_items reach n.op n.operands frame homes (c.place i) = sym (control-items-at reach n.op n.operands frame homes place (operands-are c i n k.node.text)) ∙ ap (control_items reach n.op n.operands frame homes) (sym k.address) in
-      control-nodes-carry reach code trash c i n frame homes (numbered live) is k.node.places (are-words c.addresses k.node.low n.operands k.asked.words) ends k.node.frame_is
-      k.node.homes_are k.node.text (subst (λ l. StandsInCode code trash c i (settled to (c.place i) l)) same stands)
+      let same : items ≡ control_items reach n.op n.operands frame homes saved (c.place i) = sym (control-items-at reach n.op n.operands frame homes saved place (operands-are c i n k.node.text)) ∙ ap (control_items reach n.op n.operands frame homes saved) (sym k.address) in
+      control-nodes-carry reach code trash c i n frame homes saved (numbered live) is k.node.places (are-words c.addresses k.node.low n.operands k.asked.words) ends k.node.frame_is
+      k.node.homes_are k.node.saved_is k.node.text (subst (λ l. StandsInCode code trash c i (settled to (c.place i) l)) same stands)
 
-  families : HoldsOfFamilies (a64_families homes reach) Carries frame choices staged place
+  families : HoldsOfFamilies (a64_families homes saved reach) Carries frame choices staged place
   families = record {
     values = λ n is. values n is (value-stays n.op is);
     loads = loads;
@@ -156,5 +156,5 @@ module _ (reach : Reach) (code : List ℕ) (trash : ℕ) (c : Code) (i frame hom
     controls = controls;
   }
 
-  pub items-carry : (n : Node) → Carries n (node_items homes reach n frame choices staged place)
-  items-carry = of-node (a64_families homes reach) Carries frame choices staged place families
+  pub items-carry : (n : Node) → Carries n (node_items homes saved reach n frame choices staged place)
+  items-carry = of-node (a64_families homes saved reach) Carries frame choices staged place families

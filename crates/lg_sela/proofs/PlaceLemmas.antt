@@ -20,7 +20,7 @@ align-at : (p : ℕ) (xs : List Operand) → admit (forms_of (op.Plain plain.Ali
 align-at p (operand.Number n ∷ []) a = ap (λ k. ones (idle k)) (same-padding p n (and-first (is_alignment n) true a))
 align-at p xs a = refl
 
-pub control-items-at : (reach : Reach) (o : Op) (xs : List Operand) (frame homes p : ℕ) → admit (forms_of o) xs ≡ true → control_items reach o xs frame homes (code_base + p)
-    ≡ control_items reach o xs frame homes p
-control-items-at reach (op.Plain plain.Align) xs frame homes p a = align-at p xs a
-control-items-at reach o xs frame homes p a = refl
+pub control-items-at : (reach : Reach) (o : Op) (xs : List Operand) (frame homes saved p : ℕ) → admit (forms_of o) xs ≡ true → control_items reach o xs frame homes saved (code_base + p)
+    ≡ control_items reach o xs frame homes saved p
+control-items-at reach (op.Plain plain.Align) xs frame homes saved p a = align-at p xs a
+control-items-at reach o xs frame homes saved p a = refl

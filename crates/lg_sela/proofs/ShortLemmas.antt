@@ -1,6 +1,6 @@
 -- Code that leads back to a label has the shortest form that reaches it, and code that leads ahead the one that the buffer's size asks for.
 use Rattle.std.proofs.Common.{◌≡◌, ℕ, ◌+◌, ◌-◌, ◌*◌, ◌/◌, ◌%◌, ◌^◌, Bool, true, false, List, [], ◌∷◌, ◌++◌, length, None, Some, refl, sym, ap, ◌∙◌, subst, arith, append_assoc}
-use Rattle.std.specs.Prelude.{◌==◌, pos, ◌+ℤ◌, ◌*ℤ◌, nat_le, nat_lt, if◌then◌else◌, slice_get, slice_index}
+use Rattle.std.specs.Prelude.{◌==◌, pos, ◌+ℤ◌, ◌*ℤ◌, nat_lt, if◌then◌else◌, slice_get, slice_index}
 use Rattle.std.proofs.lemmas.Int.{ints}
 use Rattle.lg_base.specs.HostNames.{host_address}
 use Rattle.lg_base.specs.Layout.{code_base}
@@ -44,7 +44,8 @@ use Rattle.lg_sel.specs.Shorts.{a64_is_relative, LeadsBy, IsShortBranchIf, IsSho
 use Rattle.lg_sel.proofs.OfControl.ControlLemmas.{differ, never, never-sum}
 use Rattle.lg_sel.specs.Holes.{Each}
 use Rattle.lg_sel.proofs.ListLemmas.{each-append}
-use Rattle.lg_sel.specs.Reaches.{near_size, may_wait, Leads, LeadsTo, IsLeast, IsLeastAhead}
+use Rattle.lg_sel.specs.Reaches.{reach_ahead, may_wait, Leads, LeadsTo, IsLeast, IsLeastAhead}
+use Rattle.lg_sel.proofs.ReachLemmas.{size-small, size-near, small-near}
 use Rattle.lg_sel.specs.declared.reach.Reach.{Reach}
 use Rattle.lg_sel.specs.declared.reach.Reach.TheVariants.{Short, Near, Far}
 use Rattle.lg_sela.proofs.OfControl.ControlLemmas.{second-is, compared-is, branch-settled}
@@ -246,7 +247,7 @@ module _ (old new : Buffer) (code : List ℕ) (c : Code) (i : ℕ) (f : IsFinish
         (become ∙ ap (λ z. front ++ z) same) k.apart leads (subst (λ p. has_form p (leap ∷ rest)) (sym starts) form)
 
   -- ---- back to a label that is bound
-  module _ (goal frame homes : ℕ) where
+  module _ (goal frame homes saved : ℕ) where
     does-of : (l : Label) (g : Fix) (gs : List Fix) → place_of old.labels l.0 ≡ Some goal → gs ≡ g ∷ [] → g.label ≡ record { 0 = l.0 } → Fits g.kind g.place goal → Each (Leads old) gs
     does-of l g gs bound is same fits =
         subst (Each (Leads old)) (sym is) (subst (LeadsTo old.size g) (sym (ap (λ m. place_of old.labels m.0) same ∙ bound)) fits, tt)
@@ -276,10 +277,10 @@ module _ (old new : Buffer) (code : List ℕ) (c : Code) (i : ℕ) (f : IsFinish
 
     -- what is known of the operands of a node with this reach
     abbrev IsKnown : Reach → Op → List Operand → Type 0
-    IsKnown r o xs = selection.IsKnown a64_holes IsItem old new to goal (λ s. control_items s o xs frame homes place) r o xs
+    IsKnown r o xs = selection.IsKnown a64_holes IsItem old new to goal (λ s. control_items s o xs frame homes saved place) r o xs
 
-    short : (r : Reach) (o : Op) (xs : List Operand) → IsKnown r o xs → (b : IsBranchTo xs (λ s. control_items s o xs frame homes place)) → IsLed (IsShortBranchIf goal)
-    short r o xs k b = let L = k.labels b.label b.names in branch-short r xs (λ s. control_items s o xs frame homes place) b k.appended k.fit L.0 L.1 k.least
+    short : (r : Reach) (o : Op) (xs : List Operand) → IsKnown r o xs → (b : IsBranchTo xs (λ s. control_items s o xs frame homes saved place)) → IsLed (IsShortBranchIf goal)
+    short r o xs k b = let L = k.labels b.label b.names in branch-short r xs (λ s. control_items s o xs frame homes saved place) b k.appended k.fit L.0 L.1 k.least
 
     pub node-short : (r : Reach) (o : Op) (xs : List Operand) (l : Label) → slice_get xs 0 ≡ Some (operand.Label l) → IsKnown r o xs → IsShort Aarch64 o goal place part
     node-short r (op.Branch o last) xs l first k = short r (op.Branch o last) xs k (branch-leads o last xs k.admitted)
@@ -294,29 +295,38 @@ module _ (old new : Buffer) (code : List ℕ) (c : Code) (i : ℕ) (f : IsFinish
   waits : (l : Label) → place_of old.labels l.0 ≡ None → (g : Fix) (gs : List Fix) → gs ≡ g ∷ [] → g.label ≡ record { 0 = l.0 } → may_wait g.kind old.size ≡ true → Each (Leads old) gs
   waits l free g gs is same may = subst (Each (Leads old)) (sym is) (subst (LeadsTo old.size g) (sym (ap (λ m. place_of old.labels m.0) same ∙ free)) may, tt)
 
-  branch-ahead : (r : Reach) (is_near : Bool) → nat_le old.size near_size ≡ is_near → (xs : List Operand) (items : Reach → List Item) (k : IsBranchTo xs items)
+  -- begun with the reach that the buffer's size asks for
+  branch-ahead : (r s : Reach) → reach_ahead old.size ≡ s → (xs : List Operand) (items : Reach → List Item) (k : IsBranchTo xs items)
       → AreAppended a64_holes old new (items r) → AreItems (items r) → place_of old.labels k.label.0 ≡ None
-      → IsLeastAhead is_near (λ s. Each (Leads old) (fixes_of place (items s))) r → IsLed (IsBranchIfAhead is_near)
-  branch-ahead Short is_near e xs items k appended fit free least = absurd least
-  branch-ahead Near true e xs items k appended fit free least =
-      branch-led xs items k (IsBranchIfAhead true) Near appended fit _ _ refl refl (k.holds, _, refl)
-  branch-ahead Near false e xs items k appended fit free least = absurd (differ least)
-  branch-ahead Far true e xs items k appended fit free least =
-      absurd (least refl (waits k.label free (lead-fix Near (from xs items k) k.label) _ (branch-fix xs items k Near) refl e))
-  branch-ahead Far false e xs items k appended fit free least =
-      branch-led xs items k (IsBranchIfAhead false) Far appended fit _ _ refl refl (turned k.holds, _, refl)
+      → IsLeastAhead s (λ t. Each (Leads old) (fixes_of place (items t))) r → IsLed (IsBranchIfAhead s)
+  branch-ahead Short Short e xs items k appended fit free least =
+      branch-led xs items k (IsBranchIfAhead Short) Short appended fit _ _ refl refl (k.holds, _, refl)
+  branch-ahead Near Short e xs items k appended fit free least =
+      branch-led xs items k (IsBranchIfAhead Short) Near appended fit _ _ refl refl (k.holds, _, refl)
+  branch-ahead Far Short e xs items k appended fit free least =
+      absurd (least.1 (waits k.label free (lead-fix Near (from xs items k) k.label) _ (branch-fix xs items k Near) refl
+      (small-near old.size (size-small old.size e))))
+  branch-ahead Near Near e xs items k appended fit free least =
+      branch-led xs items k (IsBranchIfAhead Near) Near appended fit _ _ refl refl (k.holds, _, refl)
+  branch-ahead Far Near e xs items k appended fit free least =
+      absurd (least (waits k.label free (lead-fix Near (from xs items k) k.label) _ (branch-fix xs items k Near) refl (size-near old.size e)))
+  branch-ahead Far Far e xs items k appended fit free least =
+      branch-led xs items k (IsBranchIfAhead Far) Far appended fit _ _ refl refl (turned k.holds, _, refl)
+  branch-ahead Short Near e xs items k appended fit free least = absurd least
+  branch-ahead Short Far e xs items k appended fit free least = absurd least
+  branch-ahead Near Far e xs items k appended fit free least = absurd least
 
-  module _ (frame homes : ℕ) where
+  module _ (frame homes saved : ℕ) where
     abbrev IsKnownAhead : Reach → Op → List Operand → Type 0
-    IsKnownAhead r o xs = selection.IsKnownAhead a64_holes IsItem old new (λ s. control_items s o xs frame homes place) r o xs
+    IsKnownAhead r o xs = selection.IsKnownAhead a64_holes IsItem old new (λ s. control_items s o xs frame homes saved place) r o xs
 
-    abbrev is_near : Bool
-    is_near = nat_le old.size near_size
+    abbrev size_reach : Reach
+    size_reach = reach_ahead old.size
 
-    ahead : (r : Reach) (o : Op) (xs : List Operand) → IsKnownAhead r o xs → (b : IsBranchTo xs (λ s. control_items s o xs frame homes place)) → IsLed (IsBranchIfAhead is_near)
-    ahead r o xs k b = branch-ahead r is_near refl xs (λ s. control_items s o xs frame homes place) b k.appended k.fit (k.labels b.label b.names) k.least
+    ahead : (r : Reach) (o : Op) (xs : List Operand) → IsKnownAhead r o xs → (b : IsBranchTo xs (λ s. control_items s o xs frame homes saved place)) → IsLed (IsBranchIfAhead size_reach)
+    ahead r o xs k b = branch-ahead r size_reach refl xs (λ s. control_items s o xs frame homes saved place) b k.appended k.fit (k.labels b.label b.names) k.least
 
-    pub node-ahead : (r : Reach) (o : Op) (xs : List Operand) (l : Label) → slice_get xs 0 ≡ Some (operand.Label l) → IsKnownAhead r o xs → IsAhead Aarch64 is_near o place part
+    pub node-ahead : (r : Reach) (o : Op) (xs : List Operand) (l : Label) → slice_get xs 0 ≡ Some (operand.Label l) → IsKnownAhead r o xs → IsAhead Aarch64 size_reach o place part
     node-ahead r (op.Branch o last) xs l first k = ahead r (op.Branch o last) xs k (branch-leads o last xs k.admitted)
     node-ahead r (op.BranchSum o last) xs l first k = ahead r (op.BranchSum o last) xs k (sum-leads o last xs k.admitted)
     node-ahead r (op.Control control.Jmp last_operand.Immediate) xs l first k = tt

@@ -17,21 +17,22 @@ use Rattle.lg_sela.specs.Memory.VariableArgumentCode.{next_argument_code}
 use Rattle.lg_sela_values.specs.ValueItems.{value_items}
 use Rattle.lg_temp.specs.declared.choice.Choice.{Choice}
 
--- with this reach, in a function that reads so many homes
-abbrev pub a64_families : ℕ → Reach → Families Item
-a64_families homes reach = record {
+-- with this reach, in a function that reads so many homes, where frames save so many of V0, V1 and V2
+abbrev pub a64_families : ℕ → ℕ → Reach → Families Item
+a64_families homes saved reach = record {
   values = λ frame n choices. value_items n choices;
   load = λ frame t at n choices. ones (load_code t at n);
   store = λ frame t at n choices. ones (store_code t at n);
   argument = λ frame t n. ones (argument_code t n);
   next_argument = λ n. ones (next_argument_code n);
   push = λ frame j n. push_code j n;
-  control = λ o xs frame place. control_items reach o xs frame homes place;
+  control = λ o xs frame place. control_items reach o xs frame homes saved place;
 }
 
--- those of a node of a function with such a frame and so many homes, with these choices, where these arguments are staged and the code begins at a place
-abbrev pub node_items : ℕ → Reach → Node → ℕ → List Choice → List Bool → ℕ → List Item
-node_items homes reach n frame choices staged place = families.node_items (a64_families homes reach) n frame choices staged place
+-- those of a node of a function with such a frame and so many homes, where frames save so many of V0, V1 and V2, with these choices, where these arguments
+-- are staged and the code begins at a place
+abbrev pub node_items : ℕ → ℕ → Reach → Node → ℕ → List Choice → List Bool → ℕ → List Item
+node_items homes saved reach n frame choices staged place = families.node_items (a64_families homes saved reach) n frame choices staged place
 
 -- what is asked of a node, the size of the frame, the choices, and the arguments that are staged
 pub record IsGiven (n : Node) (frame : ℕ) (choices : List Choice) (staged : List Bool) : Type 0 where

@@ -21,6 +21,7 @@ fn put_items(
     node: &Node,
     frame: u32,
     homes: u32,
+    saved: u32,
     choices: &Choices,
     staged: &Staged,
     place: u32,
@@ -32,7 +33,7 @@ fn put_items(
     requires slots { HaveSlots choices.now }
     requires staged { is_pusharg node.now.op ≡ true → AreFirst staged.now.arguments }
     requires empty { items.old ≡ [] }
-    ensures { items.new ≡ node_items homes reach node.now frame choices.now staged.now.arguments place }
+    ensures { items.new ≡ node_items homes saved reach node.now frame choices.now staged.now.arguments place }
 {
     match node.op {
         Op::Binary(_, _)
@@ -45,7 +46,7 @@ fn put_items(
         Op::Getarg(t) => put_getarg(node, t, items),
         Op::Plain(PlainOp::VaArg) => put_next_argument(node, items),
         Op::Control(ControlOp::Pusharg, _) => put_argument(node, staged_count(staged), items),
-        _ => put_control(node, frame, homes, place, reach, items),
+        _ => put_control(node, frame, homes, saved, place, reach, items),
     }
 }
 
@@ -66,6 +67,7 @@ impl lg_sel::Emitter for Emitter {
         node: &Node,
         frame: u32,
         homes: u32,
+        saved: u32,
         choices: &Choices,
         staged: &Staged,
         place: u32,
@@ -73,10 +75,12 @@ impl lg_sel::Emitter for Emitter {
     )
         requires given { IsGiven node.now frame choices.now staged.now.arguments }
         requires empty { items.old ≡ [] }
-        ensures made { items.new ≡ node_items homes reach node.now frame choices.now staged.now.arguments place }
+        ensures made { items.new ≡ node_items homes saved reach node.now frame choices.now staged.now.arguments place }
         ensures few { words_in items.new ≤ 64 }
     {
-        put_items(reach, node, frame, homes, choices, staged, place, items);
+        put_items(
+            reach, node, frame, homes, saved, choices, staged, place, items,
+        );
         // They are few.
         let _list = items.as_slice();
     }

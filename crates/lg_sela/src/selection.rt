@@ -22,25 +22,25 @@ use lg_temp::{Choices, Staged};
 
 /// Appends the code of a node to a buffer, or answers false and changes nothing, which it does only where fewer than 256 bytes are free.
 ///
-/// `frame` is the size of the frame of the node's function in bytes, a multiple of 16 from 272 to 65,808, and `homes` how many homes of register
-/// arguments a `prolog` stores, which are to be those that its function reads. The choices are those of
-/// `choose` for `needs` of the node, `live_after`, and a set of arguments that holds `staged`. At a `pushargr` or `pushargi` `staged` holds
-/// the arguments that were pushed before it, of which there are fewer than 16. The node has the operands of its operation; it names code
-/// labels of the buffer, and one in the place of an immediate only at `movi`, `pushargi` and `reti`. There is room for a fix. The buffer holds
+/// `frame` is the size of the frame of the node's function in bytes, a multiple of 16 from 272 to 65,808, `homes` how many homes of register
+/// arguments a `prolog` stores, which are to be those that its function reads, and `saved` how many of V0, V1 and V2 it saves, one number for all nodes
+/// of a text. The choices are those of `choose` for `needs` of the node, `live_after`, and a set of arguments that holds `staged`. At a `pushargr` or
+/// `pushargi` `staged` holds the arguments that were pushed before it, of which there are fewer than 16. The node has the operands of its operation; it
+/// names code labels of the buffer, and one in the place of an immediate only at `movi`, `pushargi` and `reti`. There is room for a fix. The buffer holds
 /// whole instructions, and does so behind the node.
 ///
-/// Behind an `.align` the place is a multiple of its number, and a `prolog` has bytes. Each new fix lies behind what the buffer held, names a label
-/// of the node, and reaches the place of a label that is bound, and else every place, or every one within 1 MiB where the buffer's size is no more. The
-/// code that leads back to a label that is bound has the shortest form that reaches it, and code that leads ahead to one that is not the near form,
-/// or in a larger buffer the far one. Once the fixes of the buffer are patched, the code is whole instructions, and carries
-/// the node where the registers of `live_after` are live behind it: no step of it but one of a host function changes a register that is outside of
-/// the conventions. It has one store for each choice that saves a register, and one more at stores, `pushargr` and `pushargi`; that of a `prolog` may
-/// have more.
+/// Behind an `.align` the place is a multiple of its number, and a `prolog` has bytes. Each new fix lies behind what the buffer held, names a label of the
+/// node, and reaches the place of a label that is bound, and else every place that is fewer bytes away than the buffer's size. The code that leads back to
+/// a label that is bound has the shortest form that reaches it, and code that leads ahead to one that is not the near form, or in a buffer of more than 1
+/// MiB the far one. Once the fixes of the buffer are patched, the code is whole instructions, and carries the node where the registers of `live_after` are
+/// live behind it: no step of it but one of a host function changes a register that is outside of the conventions. It has one store for each choice that
+/// saves a register, and one more at stores, `pushargr` and `pushargi`; that of a `prolog` may have more.
 #[must_use]
 pub fn select(
     node: &Node,
     frame: u32,
     homes: u32,
+    saved: u32,
     choices: &Choices,
     live_after: RegSet,
     staged: Staged,
@@ -69,11 +69,11 @@ pub fn select(
     ensures ahead { IsTrue result → IsAheadWhenFinished Target.Aarch64 node.now buf.old buf.new }
     ensures instructions { IsTrue result → AreInstructionsWhenFinished Target.Aarch64 buf.old buf.new }
     ensures sparing { IsTrue result → IsSparingWhenFinished Target.Aarch64 node.now choices.now buf.old buf.new }
-    ensures carries { IsTrue result → IsCarriedWhenFinished Target.Aarch64 node.now frame homes (has live_after) staged.arguments buf.old buf.new }
+    ensures carries { IsTrue result → IsCarriedWhenFinished Target.Aarch64 node.now frame homes saved (has live_after) staged.arguments buf.old buf.new }
 {
     let operands = node.operands.as_slice();
     see_numbers(operands);
     items.clear();
-    let _reach = shortest_items::<Emitter>(node, frame, homes, choices, &staged, buf, items);
+    let _reach = shortest_items::<Emitter>(node, frame, homes, saved, choices, &staged, buf, items);
     append(items, buf)
 }

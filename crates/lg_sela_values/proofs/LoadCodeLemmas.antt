@@ -1,10 +1,10 @@
 -- Code that puts a word into a register.
 use Rattle.std.proofs.Common.{◌≡◌, ℕ, ◌^◌, ◌<◌, Bool, true, false, List, [], ◌∷◌, ◌++◌, ap, ◌∙◌, arith, length}
 use Rattle.std.specs.Prelude.{◌==◌, ◌&&◌, if◌then◌else◌}
+use Rattle.std.proofs.lemmas.Bool.{and_parts}
 use Rattle.lg_a64.specs.declared.instruction.Instr.{Instr}
 use Rattle.lg_cpu.specs.HostSteps.{put}
 use Rattle.lg_carry.specs.Values.Computers.{Held}
-use Rattle.lg_carry.proofs.OfValues.ComputationLemmas.{and-true}
 use Rattle.lg_sela_values.specs.Processor.Computations.{computes, all_compute, holding, computed}
 use Rattle.lg_sela_values.specs.Processor.Numbers.{number_code, LoadsNumber}
 use Rattle.lg_sela_values.proofs.OfProcessor.NumberCodeLemmas.{numbers-are-loaded}
@@ -18,7 +18,7 @@ put-small w t v small words r = by (r == t)
 
 pub all-compute-append : (xs ys : List Instr) → all_compute xs ≡ true → all_compute ys ≡ true → all_compute (xs ++ ys) ≡ true
 all-compute-append [] ys h k = k
-all-compute-append (x ∷ xs) ys h k = let b = and-true (computes x) (all_compute xs) h in ap (λ z. z && all_compute (xs ++ ys)) b.0 ∙ all-compute-append xs ys b.1 k
+all-compute-append (x ∷ xs) ys h k = let b = and_parts (computes x) (all_compute xs) h in ap (λ z. z && all_compute (xs ++ ys)) b.0 ∙ all-compute-append xs ys b.1 k
 
 pub longer : (xs ys : List Instr) → 0 < length xs → 0 < length (xs ++ ys)
 longer [] ys h = absurd (omega (arith, h))

@@ -1,6 +1,7 @@
 -- Remainders by an immediate, which stands in a temporary, are carried by their items.
 use Rattle.std.proofs.Common.{◌≡◌, ◌≢◌, ℕ, ◌<◌, Bool, true, false, List, [], ◌∷◌, refl, sym, ap, ◌∙◌, subst, arith}
 use Rattle.std.specs.Prelude.{◌||◌, slice_index, slice_index_or}
+use Rattle.std.proofs.lemmas.Bool.{or_parts}
 use Rattle.lg_base.specs.declared.target.Target.TheVariants.{Aarch64}
 use Rattle.lg_op.specs.Forms.{admits}
 use Rattle.lg_op.specs.declared.form.Form.TheVariants.{Immediate}
@@ -41,9 +42,6 @@ use Rattle.lg_sela_values.proofs.ComputedNodeLemmas.{computed-carries}
 use Rattle.lg_sela_values.proofs.SettledLemmas.{settles-saved, IsCarried}
 
 -- ---- the temporary
-either : (b c : Bool) → (b || c) ≡ false → (b ≡ false) × (c ≡ false)
-either true c e = cc
-either false c e = (refl, e)
 
 saved-small : (x : ℕ) → can_save x ≡ true → x < 31
 saved-small x h = grind (arith, h)
@@ -65,7 +63,7 @@ is-temporary : (n : Node) (a : Reg) (live : Reg → Bool) (staged : List Bool) (
 is-temporary n a live staged choice reads chosen =
     let u = taken_by choice in
     let m = is-tried (around Aarch64 n live staged) choice chosen in
-    let own = either (stands_in Aarch64 (is_read n) u) (stands_in Aarch64 (is_written n) u) m.own in
+    let own = or_parts (stands_in Aarch64 (is_read n) u) (stands_in Aarch64 (is_written n) u) m.own in
     let spare = tried-spare Aarch64 u m.tried in
     record {
       within = saved-small u (tried-saved u m.tried);

@@ -1,5 +1,6 @@
 -- The nodes that compute values are carried by their items.
 use Rattle.std.proofs.Common.{◌≡◌, ◌≢◌, ℕ, ◌⊎◌, inl, inr, Bool, true, false, refl, sym, subst}
+use Rattle.std.proofs.lemmas.Bool.{cases_Bool}
 use Rattle.lg_op.specs.Forms.{last_form, admits}
 use Rattle.lg_op.specs.declared.op.BinaryOp.{BinaryOp}
 use Rattle.lg_op.specs.declared.op.WideOp.{WideOp}
@@ -17,15 +18,11 @@ use Rattle.lg_sela_values.proofs.PlainItemLemmas.{unary-carried, movi-carried, v
 use Rattle.lg_sela_values.proofs.TemporaryItemLemmas.{temporary-carried}
 use Rattle.lg_sela_values.proofs.BinaryItemLemmas.{is_remainder}
 
-true-false : (b : Bool) → (b ≡ true) ⊎ (b ≡ false)
-true-false true = inl refl
-true-false false = inr refl
-
 binary-carried : (o : BinaryOp) (last : LastOperand) (d a : Reg) (x : Operand) (line : ℕ) → d ≢ Fp → admits (last_form last) x ≡ true → IsCarried (binary_node o last d a x line)
 binary-carried o last_operand.Register d a x line named h =
     let b = is-source x h in
     subst (λ y. IsCarried (binary_node o last_operand.Register d a y line)) (sym b.is) (registers-carried o d a b.register line named)
-binary-carried o last_operand.Immediate d a x line named h = by (true-false (is_remainder o))
+binary-carried o last_operand.Immediate d a x line named h = by (cases_Bool (is_remainder o))
   where
     by : (is_remainder o ≡ true) ⊎ (is_remainder o ≡ false) → IsCarried (binary_node o last_operand.Immediate d a x line)
     by (inl e) = temporary-carried o d a x line e named h

@@ -1,5 +1,6 @@
 -- Nodes with two results.
 use Rattle.std.proofs.Common.{◌≡◌, ◌≢◌, ℕ, false, List, [], ◌∷◌, ◌++◌, Some, sym, ap, ◌∙◌, subst}
+use Rattle.std.proofs.lemmas.Bool.{or_left}
 use Rattle.lg_base.specs.declared.target.Target.TheVariants.{Aarch64}
 use Rattle.lg_op.specs.declared.op.WideOp.{WideOp}
 use Rattle.lg_op.specs.declared.op.LastOperand.TheVariants as last_operand
@@ -20,7 +21,7 @@ use Rattle.lg_carry.specs.Values.Computers.{Held}
 use Rattle.lg_carry.specs.Values.ValueNodes.{wide_node}
 use Rattle.lg_carry.specs.Values.Values.{HoldsPair}
 use Rattle.lg_carry.proofs.OfValues.ComputationLemmas.{computed-append}
-use Rattle.lg_carry.proofs.OfValues.TwoResultLemmas.{or-left, registers-apart, wide-nodes-compute}
+use Rattle.lg_carry.proofs.OfValues.TwoResultLemmas.{registers-apart, wide-nodes-compute}
 use Rattle.lg_sela_values.specs.Processor.A64Computers.{a64_scratch, a64_computer, IsComputed}
 use Rattle.lg_sela_values.specs.Processor.A64Rows.{link}
 use Rattle.lg_sela_values.specs.Processor.Computations.{holding, computed_by, computed}
@@ -51,7 +52,7 @@ module _ (c : Code) (i : ℕ) (o : WideOp) (d e a : Reg) (line : ℕ) (nd : d �
       wide-nodes-compute (a64_computer code trash) a64_scratch c i o last_operand.Register d e a (operand.Reg b) line [] body nd ne apart t
       (into code trash (d ∷ e ∷ []) [] body record { some = wide-some o rd re ra rb; computes = wide-computes o rd re ra rb; keeps = λ w r x taken off. wide-keeps o rd re ra rb w r x.0 x.1.0 off })
       (λ s w m k p h em ek ez.
-      let eb : w.registers rb ≡ k = h.registers b k (λ z. or-left _ false (or-left _ false (or-left _ (is_same a b) (same-self b z)))) ek in
+      let eb : w.registers rb ≡ k = h.registers b k (λ z. or_left _ false (or_left _ false (or_left _ (is_same a b) (same-self b z)))) ek in
       let same : wide_value o (w.registers ra) (w.registers rb) ≡ wide_value o m k = (λ j. wide_value o (em j) (eb j)) in
       wide-value rd re ra rb (register-small d) (register-small e) (registers-apart Aarch64 d e nd ne apart) (register-small a) (register-small b) w (h.words ra) (h.words rb) o p (same ∙ ez))
 

@@ -1,6 +1,7 @@
 -- Nodes that set the carry are carried by their items.
 use Rattle.std.proofs.Common.{◌≡◌, ◌≢◌, ℕ, ◌<◌, Bool, true, false, List, [], ◌∷◌, ◌++◌, Some, refl, sym, ap, ◌∙◌, subst, arith}
 use Rattle.std.specs.Prelude.{◌||◌, pos, if◌then◌else◌, slice_index, slice_index_or}
+use Rattle.std.proofs.lemmas.Bool.{or_parts}
 use Rattle.lg_base.specs.declared.target.Target.TheVariants.{Riscv64}
 use Rattle.lg_op.specs.Forms.{admits}
 use Rattle.lg_op.specs.declared.form.Form.TheVariants.{Immediate}
@@ -105,11 +106,6 @@ sum-carried o last d a x line carries none temp other named form = carried-plain
       computes = carried-computes-node c i o last d a x line carries named t [] 0 temp (λ r e. other r) f.code f.word f.puts f.gives;
     })
 
--- with one
-either : (b c : Bool) → (b || c) ≡ false → (b ≡ false) × (c ≡ false)
-either true c e = cc
-either false c e = (refl, e)
-
 saved-nonzero : (x : ℕ) → can_save x ≡ true → x ≢ 0
 saved-nonzero x h = λ e. absurd (grind (arith, h, e))
 
@@ -124,7 +120,7 @@ is-temporary : (n : Node) (d a : Reg) (live : Reg → Bool) (staged : List Bool)
 is-temporary n d a live staged choice named writes reads chosen =
     let u = taken_by choice in
     let m = is-tried (around Riscv64 n live staged) choice chosen in
-    let own = either (stands_in Riscv64 (is_read n) u) (stands_in Riscv64 (is_written n) u) m.own in
+    let own = or_parts (stands_in Riscv64 (is_read n) u) (stands_in Riscv64 (is_written n) u) m.own in
     let spare = tried-spare Riscv64 u m.tried in
     record {
       nonzero = saved-nonzero u (tried-saved u m.tried);

@@ -1,6 +1,7 @@
 -- A temporary is none of the registers of its node, nor x0, the link or the carry.
 use Rattle.std.proofs.Common.{◌≡◌, ◌≢◌, ℕ, ◌⊎◌, inl, inr, Bool, true, false, List, [], ◌∷◌, refl, sym, ap, ◌∙◌, arith}
 use Rattle.std.specs.Prelude.{◌==◌, ◌||◌}
+use Rattle.std.proofs.lemmas.Bool.{or_parts}
 use Rattle.lg_base.specs.declared.target.Target.TheVariants.{Riscv64}
 use Rattle.lg_op.specs.declared.node.Node.{Node}
 use Rattle.lg_op.specs.declared.operand.Reg.{Reg}
@@ -31,10 +32,6 @@ pub record IsTemporary (n : Node) (choices : List Choice) (u : ℕ) : Type 0 whe
   pub taken : is_taken choices u ≡ true
   pub apart : (r : Reg) → IsOf n r → register_of Riscv64 r ≢ u
 
-either : (b c : Bool) → (b || c) ≡ false → (b ≡ false) × (c ≡ false)
-either true c e = cc
-either false c e = (refl, e)
-
 same : (u : ℕ) (b : Bool) → ((u == u) || b) ≡ true
 same u b = let e : (u == u) ≡ true = grind arith in ap (λ c. c || b) e
 
@@ -60,7 +57,7 @@ module _ (n : Node) (u : ℕ) where
 
   tried-apart : (live : Reg → Bool) (staged : List Bool) (choices : List Choice) → IsTaken (around Riscv64 n live staged) (Any ∷ []) [] u → is_taken choices u ≡ true → IsTemporary n choices u
   tried-apart live staged choices m taken =
-      let own = either (stands_in Riscv64 (is_read n) u) (stands_in Riscv64 (is_written n) u) m.own in
+      let own = or_parts (stands_in Riscv64 (is_read n) u) (stands_in Riscv64 (is_written n) u) m.own in
       let spare = tried-spare Riscv64 u m.tried in
       record { stack = λ e. spare.stack (sym e); nonzero = some u (tried-saved u m.tried); link = λ e. spare.link 1 refl (sym e); taken = taken; apart = λ r of. apart-from r spare.pointer own.0 own.1 of }
 

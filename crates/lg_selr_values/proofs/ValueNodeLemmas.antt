@@ -1,5 +1,6 @@
 -- The nodes that compute values are carried by their items.
 use Rattle.std.proofs.Common.{◌≡◌, ◌≢◌, ℕ, ◌⊎◌, inl, inr, Bool, true, false, refl, sym, ◌∙◌, subst}
+use Rattle.std.proofs.lemmas.Bool.{cases_Bool}
 use Rattle.lg_op.specs.Forms.{last_form, admits}
 use Rattle.lg_op.specs.declared.op.BinaryOp.{BinaryOp}
 use Rattle.lg_op.specs.declared.op.BinaryOp.TheVariants as binary
@@ -24,10 +25,6 @@ use Rattle.lg_selr_values.proofs.PlainItemLemmas.{unary-carried, movi-carried, v
 use Rattle.lg_selr_values.proofs.CarryItemLemmas.{HasForm, register-second, immediate-second, sum-carried, temporary-carried}
 use Rattle.lg_carry.proofs.OfValues.ResultLemmas.{or-false, or-middle}
 
-true-false : (b : Bool) → (b ≡ true) ⊎ (b ≡ false)
-true-false true = inl refl
-true-false false = inr refl
-
 writes : (o : BinaryOp) (last : LastOperand) (d a : Reg) (x : Operand) (line : ℕ) → d ≢ Fp → is_written (binary_node o last d a x line) d ≡ true
 writes o last_operand.Register d a x line named = or-false (is_same d d) ∙ same-self d named
 writes o last_operand.Immediate d a x line named = or-false (is_same d d) ∙ same-self d named
@@ -47,12 +44,12 @@ carry-carried o last d a x line h named form = cc
 binary-carried : (o : BinaryOp) (last : LastOperand) (d a : Reg) (x : Operand) (line : ℕ) → d ≢ Fp → admits (last_form last) x ≡ true → IsCarried (binary_node o last d a x line)
 binary-carried o last_operand.Register d a x line named h =
     let b = is-source x h in
-    subst (λ y. IsCarried (binary_node o last_operand.Register d a y line)) (sym b.is) (by b.register (true-false (sets_carry o)))
+    subst (λ y. IsCarried (binary_node o last_operand.Register d a y line)) (sym b.is) (by b.register (cases_Bool (sets_carry o)))
   where
     by : (b : Reg) → (sets_carry o ≡ true) ⊎ (sets_carry o ≡ false) → IsCarried (binary_node o last_operand.Register d a (operand.Reg b) line)
     by b (inl e) = carry-carried o last_operand.Register d a (operand.Reg b) line e named (λ c small. register-second c o d a b line)
     by b (inr e) = registers-carried o d a b line e named
-binary-carried o last_operand.Immediate d a x line named h = by (true-false (sets_carry o))
+binary-carried o last_operand.Immediate d a x line named h = by (cases_Bool (sets_carry o))
   where
     by : (sets_carry o ≡ true) ⊎ (sets_carry o ≡ false) → IsCarried (binary_node o last_operand.Immediate d a x line)
     by (inl e) = carry-carried o last_operand.Immediate d a x line e named (λ c small. immediate-second c o d a x line h small)

@@ -1,5 +1,6 @@
 -- Nodes with two results.
 use Rattle.std.proofs.Common.{◌≡◌, ◌≢◌, ℕ, false, List, [], ◌∷◌, ◌++◌, Some, sym, ap, ◌∙◌, subst, arith}
+use Rattle.std.proofs.lemmas.Bool.{or_left}
 use Rattle.lg_base.specs.declared.target.Target.TheVariants.{Riscv64}
 use Rattle.lg_op.specs.declared.op.WideOp.{WideOp}
 use Rattle.lg_op.specs.declared.op.LastOperand.TheVariants as last_operand
@@ -26,7 +27,7 @@ use Rattle.lg_selr_values.specs.WideCode.{wide_code}
 use Rattle.lg_carry.specs.Values.ValueNodes.{wide_node}
 use Rattle.lg_selr_values.proofs.LoadCodeLemmas.{some-same, LoadsWord, put-small, longer}
 use Rattle.lg_selr_values.proofs.WideCodeLemmas.{wide-value, wide-keeps, wide-computes, wide-some}
-use Rattle.lg_carry.proofs.OfValues.TwoResultLemmas.{or-left, registers-apart, wide-nodes-compute}
+use Rattle.lg_carry.proofs.OfValues.TwoResultLemmas.{registers-apart, wide-nodes-compute}
 use Rattle.lg_carry.specs.Values.Values.{HoldsPair}
 
 module _ (c : Code) (i : ℕ) (o : WideOp) (d e a : Reg) (line : ℕ) (nd : d ≢ Fp) (ne : e ≢ Fp) (apart : d ≢ e) where
@@ -47,7 +48,7 @@ module _ (c : Code) (i : ℕ) (o : WideOp) (d e a : Reg) (line : ℕ) (nd : d �
       (into code trash (d ∷ e ∷ []) [] body record { some = wide-some o rd re ra rb; computes = wide-computes o rd re ra rb; keeps = λ w r off taken link carry. wide-keeps o rd re ra rb w r off.0 off.1.0 link })
       (λ s w m k p h em ek ez.
       let ea : read w.registers ra ≡ m = read-of w.registers a ∙ em in
-      let eb : read w.registers rb ≡ k = read-of w.registers b ∙ h.registers b k (λ z. or-left _ false (or-left _ false (or-left _ (is_same a b) (same-self b z)))) ek in
+      let eb : read w.registers rb ≡ k = read-of w.registers b ∙ h.registers b k (λ z. or_left _ false (or_left _ false (or_left _ (is_same a b) (same-self b z)))) ek in
       let same : wide_value o (read w.registers ra) (read w.registers rb) ≡ wide_value o m k = (λ j. wide_value o (ea j) (eb j)) in
       subst (HoldsPair rd re p) (sym (registers-computed body w))
       (wide-value rd re ra rb (register-apart d).0 (register-apart e).0 (registers-apart Riscv64 d e nd ne apart) (register-apart a).0 (register-apart b).0 w.registers h.words p o (same ∙ ez)))

@@ -49,31 +49,31 @@ use Rattle.lg_selx_values.specs.declared.items.Item.TheVariants.{One, Jump, Addr
 use Rattle.lg_selx_values.specs.declared.items.JumpKind.TheVariants.{Near, NearIf, Short, ShortIf}
 use Rattle.lg_temp.specs.declared.choice.Choice.{Choice}
 
-pub selected-carries : (homes : ℕ) (reach : Reach) (node : Node) (frame : ℕ) (live : Reg → Bool) (staged : List Bool) (choices : List Choice) (old new : Buffer) (items : List Item) → IsFrame frame → IsAsked node live staged choices (length old.labels)
-    → items ≡ node_items homes reach node frame choices staged (length old.bytes) → words_in items ≤ 64 → AreAppended old new items → IsCarriedWhenFinished X86_64 node frame homes live staged old new
-selected-carries homes reach node frame live staged choices old new items sized asked e few appended code trash c i word f n =
+pub selected-carries : (homes saved : ℕ) (reach : Reach) (node : Node) (frame : ℕ) (live : Reg → Bool) (staged : List Bool) (choices : List Choice) (old new : Buffer) (items : List Item) → IsFrame frame → IsAsked node live staged choices (length old.labels)
+    → items ≡ node_items homes saved reach node frame choices staged (length old.bytes) → words_in items ≤ 64 → AreAppended old new items → IsCarriedWhenFinished X86_64 node frame homes saved live staged old new
+selected-carries homes saved reach node frame live staged choices old new items sized asked e few appended code trash c i word f n =
     let place : ℕ = length old.bytes in
-    let mine : List Item = node_items homes reach node frame choices staged place in
-    let fit = items-fit homes reach frame live staged choices (length old.labels) place node sized asked in
+    let mine : List Item = node_items homes saved reach node frame choices staged place in
+    let fit = items-fit homes saved reach frame live staged choices (length old.labels) place node sized asked in
     let a : AreAppended old new mine = subst (AreAppended old new) e appended in
     let short : words_in mine ≤ 64 = subst (λ l. words_in l ≤ 64) e few in
-    items-carry reach code trash c i frame homes sized live staged choices (length old.labels) place node
+    items-carry reach code trash c i frame homes saved sized live staged choices (length old.labels) place node
     record { node = n; asked = asked; address = f.here }
-    (are-of-node old new code trash c i mine word a fit.instrs (subst (λ b. StayWithin b mine) (sym (ap (moves_at X86_64) n.text.here)) (items-within homes reach frame live staged choices (length old.labels) place node asked)) short f)
+    (are-of-node old new code trash c i mine word a fit.instrs (subst (λ b. StayWithin b mine) (sym (ap (moves_at X86_64) n.text.here)) (items-within homes saved reach frame live staged choices (length old.labels) place node asked)) short f)
 
 -- ---- what was appended
 -- a `prolog` has some
-prolog-some : (homes : ℕ) (reach : Reach) (o : Op) (xs : List Operand) (line frame : ℕ) (choices : List Choice) (staged : List Bool) (place : ℕ) → is_prolog o ≡ true → 0 < length (blanks (node_items homes reach (node_of o xs line) frame choices staged place))
-prolog-some homes reach (op.Plain plain.Prolog) xs line frame choices staged place is = omega arith
-prolog-some homes reach o xs line frame choices staged place is = cc
+prolog-some : (homes saved : ℕ) (reach : Reach) (o : Op) (xs : List Operand) (line frame : ℕ) (choices : List Choice) (staged : List Bool) (place : ℕ) → is_prolog o ≡ true → 0 < length (blanks (node_items homes saved reach (node_of o xs line) frame choices staged place))
+prolog-some homes saved reach (op.Plain plain.Prolog) xs line frame choices staged place is = omega arith
+prolog-some homes saved reach o xs line frame choices staged place is = cc
 
 -- the items of each node, as `select` asks for them
-pub x86-selection : (homes : ℕ) → IsSelection X86_64 needs x86_holes spelling IsInstr IsItem x86_stores Names (x86_families homes)
-x86-selection homes = record {
+pub x86-selection : (homes saved : ℕ) → IsSelection X86_64 needs x86_holes spelling IsInstr IsItem x86_stores Names (x86_families homes saved)
+x86-selection homes saved = record {
   holes = are-holes;
-  emits = node-emits homes;
-  fit = λ reach frame live staged choices labels place n sized asked. (items-fit homes reach frame live staged choices labels place n sized asked).instrs;
-  begins = prolog-some homes;
+  emits = node-emits homes saved;
+  fit = λ reach frame live staged choices labels place n sized asked. (items-fit homes saved reach frame live staged choices labels place n sized asked).instrs;
+  begins = prolog-some homes saved;
 }
 
 -- ---- fixes
@@ -105,19 +105,19 @@ module _ (n : Node) (old : Buffer) where
   leads reaches.Far (Jump (ShortIf cond) label) place low even h checked = absurd h
   leads reach (Address reg label) place low even h checked = (record { from = omega (arith, low); names = h; reaches = λ target t most here led. omega (arith, most) }, tt)
 
-  pub appended-lead : (homes : ℕ) (reach : Reach) (frame : ℕ) (choices : List Choice) (staged : List Bool) (new : Buffer) (items : List Item) → items ≡ node_items homes reach n frame choices staged (length old.bytes)
+  pub appended-lead : (homes saved : ℕ) (reach : Reach) (frame : ℕ) (choices : List Choice) (staged : List Bool) (new : Buffer) (items : List Item) → items ≡ node_items homes saved reach n frame choices staged (length old.bytes)
       → new.fixes ≡ old.fixes ++ fixes_of (length old.bytes) items → Each (IsChecked reach old) (fixes_of (length old.bytes) items) → All (IsFixOf 1 old n) (drop (length old.fixes) new.fixes)
-  appended-lead homes reach frame choices staged new items e fixes checked =
-      let emits = node-emits homes reach frame choices staged (length old.bytes) n in
+  appended-lead homes saved reach frame choices staged new items e fixes checked =
+      let emits = node-emits homes saved reach frame choices staged (length old.bytes) n in
       fixes-of-lead x86_holes 1 n old (Names reach (names n.operands)) (IsChecked reach old) (λ x place h. one-whole (place + length (x86_holes.blank x))) (leads reach) new items fixes
       (one-whole (length old.bytes)) (subst (Each (Names reach (names n.operands))) (sym e) emits.named) checked
 
 -- ---- alignments
-pub aligned-behind : (homes : ℕ) (reach : Reach) (b : Bool) (node : Node) (frame : ℕ) (choices : List Choice) (staged : List Bool) (old new : Buffer) (items : List Item) → InForm node → items ≡ node_items homes reach node frame choices staged (length old.bytes)
+pub aligned-behind : (homes saved : ℕ) (reach : Reach) (b : Bool) (node : Node) (frame : ℕ) (choices : List Choice) (staged : List Bool) (old new : Buffer) (items : List Item) → InForm node → items ≡ node_items homes saved reach node frame choices staged (length old.bytes)
     → (IsTrue b → new.bytes ≡ old.bytes ++ blanks items) → IsTrue b → IsAligned node (length new.bytes)
-aligned-behind homes reach b node frame choices staged old new items formed e bytes went n is xs =
+aligned-behind homes saved reach b node frame choices staged old new items formed e bytes went n is xs =
     let place : ℕ = length old.bytes in
-    let made : Op → List Operand → List Item = λ o ys. node_items homes reach record { op = o; operands = ys; line = node.line } frame choices staged place in
+    let made : Op → List Operand → List Item = λ o ys. node_items homes saved reach record { op = o; operands = ys; line = node.line } frame choices staged place in
     let same : items ≡ ones (align_code place n) = e ∙ (λ j. made (is j) (xs j)) in
     let admitted : admit (forms_of (op.Plain plain.Align)) (operand.Number n ∷ []) ≡ true = subst (λ (p : Op × List Operand). admit (forms_of p.0) p.1 ≡ true) (λ j. (is j, xs j)) formed.forms in
     let total : length new.bytes ≡ place + length (blanks (ones (align_code place n))) =

@@ -1,6 +1,6 @@
 -- The items of the nodes that branch, jump, call and return, of `prolog`, `.align` and of those without code; none but those of a `prolog` store.
 use Rattle.std.proofs.Common.{◌≡◌, ℕ, zero, suc, ◌≤◌, Bool, true, false, List, [], ◌∷◌, refl, arith}
-use Rattle.std.specs.Prelude.{◌==◌, ◌&&◌, ◌%◌, ◌^◌, pos, negsuc, if◌then◌else◌, Option, Some, None}
+use Rattle.std.specs.Prelude.{◌==◌, ◌&&◌, ◌%◌, ◌^◌, pos, if◌then◌else◌, Option, Some, None}
 use Rattle.lg_base.specs.HostNames.{host_address}
 use Rattle.lg_base.specs.Words.{signed_view, is_half}
 use Rattle.lg_base.specs.declared.target.Target.TheVariants.{X86_64}
@@ -23,15 +23,15 @@ use Rattle.lg_sel.proofs.StoreLemmas as stores
 use Rattle.lg_sel.specs.Stores.{x86_stores, is_free}
 use Rattle.lg_sel.specs.declared.reach.Reach.{Reach}
 use Rattle.lg_sel.specs.declared.reach.Reach.TheVariants as reaches
-use Rattle.lg_selx.proofs.Emissions.{Names, NoneStores, keep-none, number-keeps, Emits, none, instructions, plain, number, address, jump, front, behind}
+use Rattle.lg_selx.proofs.Emissions.{Names, NoneStores, Keeps, keep-none, number-keeps, Emits, none, instructions, plain, number, address, jump, front, behind}
 use Rattle.lg_selx.specs.Control.Alignments.{padding, idle, align_code}
 use Rattle.lg_selx.specs.Control.Branches.{comparison, is_difference, taken, far_number, pointer_comparison, wide_comparison, word_comparison, before_branch}
 use Rattle.lg_selx.specs.Control.ControlItems.{jump_kind, plain_kind, branch_if_items, branch_items, sum_items, jump_items, call_items, result_items, ret_items, register_jump_items, register_call_items, leap_items, align_items, control_items}
 use Rattle.lg_selx.specs.Control.HostCalls.{host_code}
-use Rattle.lg_selx.proofs.OfControl.FitLemmas.{stored-few}
-use Rattle.lg_selx.specs.Control.Prologs.{stored_registers, store_word, lowered, prolog_code}
+use Rattle.lg_selx.proofs.SmallLemmas.{prolog-long}
+use Rattle.lg_selx.specs.Control.Prologs.{prolog_code}
 use Rattle.lg_selx.specs.Control.RegisterLeaps.{register_jump_code, register_call_code}
-use Rattle.lg_selx.specs.Control.Returns.{result, return_code}
+use Rattle.lg_selx.specs.Control.Returns.{result, restores, leave_code, restore_code, return_code}
 use Rattle.lg_selx.specs.Control.SumBranches.{sum_row, sum_number, sum_taken, number_sum, before_sum_branch}
 use Rattle.lg_selx_values.specs.declared.items.Item.TheVariants.{Jump}
 use Rattle.lg_selx_values.specs.declared.items.JumpKind.TheVariants.{Near}
@@ -39,6 +39,8 @@ use Rattle.lg_selx_values.specs.Scratch.{again}
 use Rattle.lg_op.specs.declared.operand.Reg.TheVariants.{R0}
 use Rattle.lg_temp.specs.Abis.{register_of}
 use Rattle.lg_x86.specs.declared.instruction.Cond.{Cond}
+use Rattle.lg_selx.proofs.OfControl.TakenLemmas.{each-taken}
+use Rattle.lg_x86.specs.declared.instruction.BareOp.TheVariants.{Ret}
 use Rattle.lg_x86.specs.declared.instruction.ImmOp.TheVariants.{Andi, Cmpi}
 use Rattle.lg_x86.specs.declared.instruction.Instr.{Instr}
 use Rattle.lg_x86.specs.declared.instruction.Instr.TheVariants as instr
@@ -93,11 +95,17 @@ idle-none : (k : ℕ) → NoneStores (idle k)
 idle-none zero = refl
 idle-none (suc k) = idle-none k
 
--- a `prolog` stores at most 10 registers
-prolog-few : (frame homes : ℕ) → stores.stores_among x86_stores (prolog_code frame homes) ≤ 16
-prolog-few frame homes =
-    let h = stores.among-stores x86_stores store_word (stored_registers homes) 2 (lowered frame) refl in
-    let few = stored-few homes in omega (arith, h, few)
+-- a return loads alone
+return-none : (saved : ℕ) → NoneStores (return_code saved)
+return-none saved =
+    stores.none-append x86_stores (restore_code saved) (instr.Bare Ret ∷ [])
+    (stores.none-append x86_stores (restores saved) leave_code (keep-none (restores saved) (each-taken Keeps saved (restores 3) (refl, (refl, (refl, tt))))) refl) refl
+
+-- a `prolog` is of at most 12 instructions
+prolog-few : (frame homes saved : ℕ) → stores.stores_among x86_stores (prolog_code saved frame homes) ≤ 16
+prolog-few frame homes saved =
+    let h = stores.among-length x86_stores (prolog_code saved frame homes) in
+    let few = prolog-long frame homes saved in omega (arith, h, few)
 
 -- the label of a jump is named
 kind-named : (reach : Reach) (is : ℕ → Bool) (holds : Cond) (l : Label) → is l.0 ≡ true → Names reach is (Jump (jump_kind reach holds) l.0)
@@ -140,9 +148,9 @@ module _ (reach : Reach) (is : ℕ → Bool) where
   result-emits (operand.Host name) h = number reach is 1 result (host_address name)
   result-emits (operand.Slot k) h = none reach is 1 0
 
-  returned : (xs : List Operand) → AllPass is xs → Emits reach is 1 0 (ret_items xs)
-  returned (x ∷ []) h = behind reach is 1 0 (result_items x) return_code (result-emits x h.0) refl
-  returned xs h = none reach is 1 0
+  returned : (saved : ℕ) (xs : List Operand) → AllPass is xs → Emits reach is 1 0 (ret_items saved xs)
+  returned saved (x ∷ []) h = behind reach is 1 0 (result_items x) (return_code saved) (result-emits x h.0) (return-none saved)
+  returned saved xs h = none reach is 1 0
 
   register-jumped : (xs : List Operand) → Emits reach is 1 0 (register_jump_items xs)
   register-jumped (operand.Reg a ∷ []) = plain reach is 1 (register_jump_code 0 a) refl
@@ -152,33 +160,33 @@ module _ (reach : Reach) (is : ℕ → Bool) where
   register-called (operand.Reg a ∷ []) = plain reach is 1 (register_call_code 0 a) refl
   register-called xs = none reach is 1 0
 
-  leaps : (o : ControlOp) (last : LastOperand) (xs : List Operand) → AllPass is xs → Emits reach is 1 0 (leap_items reach o last xs)
-  leaps control.Jmp last_operand.Immediate xs h = jumped xs h
-  leaps control.Jmp last_operand.Register xs h = register-jumped xs
-  leaps control.Call last_operand.Immediate xs h = called xs h
-  leaps control.Call last_operand.Register xs h = register-called xs
-  leaps control.Finish last_operand.Immediate xs h = called xs h
-  leaps control.Finish last_operand.Register xs h = register-called xs
-  leaps control.Ret last xs h = returned xs h
-  leaps control.Pusharg last xs h = none reach is 1 0
+  leaps : (saved : ℕ) (o : ControlOp) (last : LastOperand) (xs : List Operand) → AllPass is xs → Emits reach is 1 0 (leap_items reach saved o last xs)
+  leaps saved control.Jmp last_operand.Immediate xs h = jumped xs h
+  leaps saved control.Jmp last_operand.Register xs h = register-jumped xs
+  leaps saved control.Call last_operand.Immediate xs h = called xs h
+  leaps saved control.Call last_operand.Register xs h = register-called xs
+  leaps saved control.Finish last_operand.Immediate xs h = called xs h
+  leaps saved control.Finish last_operand.Register xs h = register-called xs
+  leaps saved control.Ret last xs h = returned saved xs h
+  leaps saved control.Pusharg last xs h = none reach is 1 0
 
   aligned : (at : ℕ) (xs : List Operand) → Emits reach is 1 0 (align_items at xs)
   aligned at (operand.Number n ∷ []) = plain reach is 1 (align_code at n) (idle-none (padding at n))
   aligned at xs = none reach is 1 0
 
-  pub controls-emit : (o : Op) (xs : List Operand) (frame homes at : ℕ) → is_free o ≡ false → AllPass is xs → Emits reach is 1 0 (control_items reach o xs frame homes at)
-  controls-emit (op.Branch o last) xs frame homes at other h = branched frame o xs h
-  controls-emit (op.BranchSum o last) xs frame homes at other h = summed frame o xs h
-  controls-emit (op.Control o last) xs frame homes at other h = leaps o last xs h
-  controls-emit (op.Plain plain_op.Prolog) xs frame homes at other h = cc
-  controls-emit (op.Plain plain_op.Epilog) xs frame homes at other h = plain reach is 1 return_code refl
-  controls-emit (op.Plain plain_op.Ret) xs frame homes at other h = plain reach is 1 return_code refl
-  controls-emit (op.Plain plain_op.Align) xs frame homes at other h = aligned at xs
-  controls-emit (op.Plain plain_op.Movi) xs frame homes at other h = none reach is 1 0
-  controls-emit (op.Plain o) xs frame homes at other h = none reach is 1 0
-  controls-emit o xs frame homes at other h = none reach is 1 0
+  pub controls-emit : (o : Op) (xs : List Operand) (frame homes saved at : ℕ) → is_free o ≡ false → AllPass is xs → Emits reach is 1 0 (control_items reach o xs frame homes saved at)
+  controls-emit (op.Branch o last) xs frame homes saved at other h = branched frame o xs h
+  controls-emit (op.BranchSum o last) xs frame homes saved at other h = summed frame o xs h
+  controls-emit (op.Control o last) xs frame homes saved at other h = leaps saved o last xs h
+  controls-emit (op.Plain plain_op.Prolog) xs frame homes saved at other h = cc
+  controls-emit (op.Plain plain_op.Epilog) xs frame homes saved at other h = plain reach is 1 (return_code saved) (return-none saved)
+  controls-emit (op.Plain plain_op.Ret) xs frame homes saved at other h = plain reach is 1 (return_code saved) (return-none saved)
+  controls-emit (op.Plain plain_op.Align) xs frame homes saved at other h = aligned at xs
+  controls-emit (op.Plain plain_op.Movi) xs frame homes saved at other h = none reach is 1 0
+  controls-emit (op.Plain o) xs frame homes saved at other h = none reach is 1 0
+  controls-emit o xs frame homes saved at other h = none reach is 1 0
 
   -- a `prolog` has no fix
-  pub prologs-emit : (o : Op) (xs : List Operand) (frame homes at : ℕ) → is_free o ≡ true → Emits reach is 1 16 (control_items reach o xs frame homes at)
-  prologs-emit (op.Plain plain_op.Prolog) xs frame homes at free = instructions reach is 1 16 (prolog_code frame homes) (prolog-few frame homes)
-  prologs-emit o xs frame homes at free = cc
+  pub prologs-emit : (o : Op) (xs : List Operand) (frame homes saved at : ℕ) → is_free o ≡ true → Emits reach is 1 16 (control_items reach o xs frame homes saved at)
+  prologs-emit (op.Plain plain_op.Prolog) xs frame homes saved at free = instructions reach is 1 16 (prolog_code saved frame homes) (prolog-few frame homes saved)
+  prologs-emit o xs frame homes saved at free = cc

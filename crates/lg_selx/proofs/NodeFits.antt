@@ -1,5 +1,5 @@
 -- The items of each node can be appended to a buffer, and write no register that is outside of the conventions.
-use Rattle.std.proofs.Common.{◌≡◌, ℕ, ◌<◌, ◌≤◌, Bool, List, [], length, arith, true, sym, subst, ◌+◌}
+use Rattle.std.proofs.Common.{◌≡◌, ℕ, ◌<◌, ◌≤◌, Bool, List, [], length, arith, true, sym, subst}
 use Rattle.lg_carry.specs.Outside.{moves_stack}
 use Rattle.lg_base.specs.declared.target.Target.TheVariants.{X86_64}
 use Rattle.lg_op.specs.declared.node.Node.{Node}
@@ -42,29 +42,29 @@ use Rattle.lg_temp.specs.Chosen.{around, spills}
 use Rattle.lg_temp.specs.declared.choice.Choice.{Choice}
 
 -- ---- labels, fixes and stores
-families-emit : (homes : ℕ) (reach : Reach) → emission.FamiliesEmit X86_64 x86_holes x86_stores (Names reach) (x86_families homes reach)
-families-emit homes reach = record {
+families-emit : (homes saved : ℕ) (reach : Reach) → emission.FamiliesEmit X86_64 x86_holes x86_stores (Names reach) (x86_families homes saved reach)
+families-emit homes saved reach = record {
   values = λ is frame n choices h. values-emit reach is frame n choices h;
   loads = λ is frame t at n choices. more reach is 1 1 0 (spills choices) (ones (load_code frame t at n)) (omega arith) (omega arith) (loads-emit reach is frame t at n);
   stores = λ is frame t at n choices. stores-emit reach is frame t at n choices;
   arguments = λ is frame t n. arguments-emit reach is frame t n;
   next_arguments = λ is n. next-arguments-emit reach is n;
   pushes = λ is frame j n h. pushes-emit reach is frame j n h;
-  controls = λ is o xs frame at. controls-emit reach is o xs frame homes at;
-  prologs = λ is o xs frame at. prologs-emit reach is o xs frame homes at;
+  controls = λ is o xs frame at. controls-emit reach is o xs frame homes saved at;
+  prologs = λ is o xs frame at. prologs-emit reach is o xs frame homes saved at;
 }
 
-pub node-emits : (homes : ℕ) (reach : Reach) (frame : ℕ) (choices : List Choice) (staged : List Bool) (place : ℕ) (n : Node) → Emits reach (names n.operands) 1 (allowed X86_64 choices n.op) (node_items homes reach n frame choices staged place)
-node-emits homes reach frame choices staged place n = emission.node-emits X86_64 x86_holes x86_stores (Names reach) (x86_families homes reach) (families-emit homes reach) frame choices staged place n (names n.operands) (all-self n.operands)
+pub node-emits : (homes saved : ℕ) (reach : Reach) (frame : ℕ) (choices : List Choice) (staged : List Bool) (place : ℕ) (n : Node) → Emits reach (names n.operands) 1 (allowed X86_64 choices n.op) (node_items homes saved reach n frame choices staged place)
+node-emits homes saved reach frame choices staged place n = emission.node-emits X86_64 x86_holes x86_stores (Names reach) (x86_families homes saved reach) (families-emit homes saved reach) frame choices staged place n (names n.operands) (all-self n.operands)
 
 -- ---- ranges
-abbrev Fit : ℕ → Reach → ℕ → List Item → Type 0
-Fit homes reach labels xs = fit.Fit X86_64 needs (x86_families homes reach) IsItem NamesOneOf labels xs
+abbrev Fit : ℕ → ℕ → Reach → ℕ → List Item → Type 0
+Fit homes saved reach labels xs = fit.Fit X86_64 needs (x86_families homes saved reach) IsItem NamesOneOf labels xs
 
 -- those of values
-values : (homes : ℕ) (reach : Reach) (labels frame : ℕ) (n : Node) (live : Reg → Bool) (set : List Bool) (choices : List Choice) → IsFrame frame → AreFor (around X86_64 n live set) (value_needs n.op) [] (value_needs n.op) choices → NameBelow labels n.operands
-    → HaveWords n.operands → Fit homes reach labels (value_items frame n choices)
-values homes reach labels frame n live set choices sized are named words = record {
+values : (homes saved : ℕ) (reach : Reach) (labels frame : ℕ) (n : Node) (live : Reg → Bool) (set : List Bool) (choices : List Choice) → IsFrame frame → AreFor (around X86_64 n live set) (value_needs n.op) [] (value_needs n.op) choices → NameBelow labels n.operands
+    → HaveWords n.operands → Fit homes saved reach labels (value_items frame n choices)
+values homes saved reach labels frame n live set choices sized are named words = record {
   instrs = (value-items-fit frame n live set choices sized.low sized.high words are).fit;
   names = value-items-name labels frame n choices named;
 }
@@ -73,9 +73,9 @@ values homes reach labels frame n live set choices sized are named words = recor
 frame-small : (frame : ℕ) → IsFrame frame → frame < 0x40000000
 frame-small frame sized = let h = sized.high in omega (arith, h)
 
-families-fit : (homes : ℕ) (reach : Reach) (labels : ℕ) → fit.FamiliesFit X86_64 needs (x86_families homes reach) IsItem NamesOneOf labels
-families-fit homes reach labels = record {
-  values = λ frame n live set choices sized is are named words. values homes reach labels frame n live set choices sized (made-values n live set choices (value-is-none n.op is) are) named words;
+families-fit : (homes saved : ℕ) (reach : Reach) (labels : ℕ) → fit.FamiliesFit X86_64 needs (x86_families homes saved reach) IsItem NamesOneOf labels
+families-fit homes saved reach labels = record {
+  values = λ frame n live set choices sized is are named words. values homes saved reach labels frame n live set choices sized (made-values n live set choices (value-is-none n.op is) are) named words;
   loads = λ frame n t at live set choices sized e are words. record { instrs = (memory-items-fit.loads frame t at n (frame-small frame sized) words).appendable.fit; names = memory-items-name.loads labels frame t at n };
   stores = λ frame n t at live set choices sized e are words. record {
     instrs = (memory-items-fit.stores t at n live set choices words (made-access n (op.Store t at) live set choices e are)).appendable.fit;
@@ -88,7 +88,7 @@ families-fit homes reach labels = record {
     names = memory-items-name.pushes labels frame j n (passed labels (operand_at n 0) named);
   };
   controls = λ n frame place sized is formed named words ends.
-      let emitted = control-items-fit reach n labels frame homes place (frame-small frame sized) is formed (are-given labels n.operands named words) ends in
+      let emitted = control-items-fit reach n labels frame homes saved place (frame-small frame sized) is formed (are-given labels n.operands named words) ends in
       record { instrs = emitted.items; names = emitted.labels };
 }
 
@@ -99,26 +99,26 @@ pub record AreEmittable (labels : ℕ) (items : List Item) : Type 0 where
   pub fixed : (p : ℕ) → length (fixes_of p items) ≤ 1
   pub small : length (blanks items) ≤ 256
 
-pub items-fit : (homes : ℕ) (reach : Reach) (frame : ℕ) (live : Reg → Bool) (staged : List Bool) (choices : List Choice) (labels place : ℕ) (n : Node) → IsFrame frame → IsAsked n live staged choices labels → AreEmittable labels (node_items homes reach n frame choices staged place)
-items-fit homes reach frame live staged choices labels place n sized k =
-    let fits = fit.items-fit X86_64 needs (x86_families homes reach) IsItem NamesOneOf labels (families-fit homes reach labels) frame sized live staged choices place n k in
-    record { instrs = fits.instrs; names = fits.names; fixed = (node-emits homes reach frame choices staged place n).fixed; small = items-small homes reach frame sized live staged choices labels place n k }
+pub items-fit : (homes saved : ℕ) (reach : Reach) (frame : ℕ) (live : Reg → Bool) (staged : List Bool) (choices : List Choice) (labels place : ℕ) (n : Node) → IsFrame frame → IsAsked n live staged choices labels → AreEmittable labels (node_items homes saved reach n frame choices staged place)
+items-fit homes saved reach frame live staged choices labels place n sized k =
+    let fits = fit.items-fit X86_64 needs (x86_families homes saved reach) IsItem NamesOneOf labels (families-fit homes saved reach labels) frame sized live staged choices place n k in
+    record { instrs = fits.instrs; names = fits.names; fixed = (node-emits homes saved reach frame choices staged place n).fixed; small = items-small homes saved reach frame sized live staged choices labels place n k }
 
 -- ---- registers
-families-stay : (homes : ℕ) (reach : Reach) → fit.FamiliesStay X86_64 needs (x86_families homes reach) StaysWithin
-families-stay homes reach = record {
+families-stay : (homes saved : ℕ) (reach : Reach) → fit.FamiliesStay X86_64 needs (x86_families homes saved reach) StaysWithin
+families-stay homes saved reach = record {
   values = λ frame n live set choices is are. value-items-stay frame n live set choices (made-values n live set choices (value-is-none n.op is) are);
   loads = λ frame t at n live set choices e are. memory-items-stay.loads frame t at n;
   stores = λ frame t at n live set choices e are. memory-items-stay.stores t at n live set choices (made-access n (op.Store t at) live set choices e are);
   arguments = λ frame t n. memory-items-stay.arguments frame t n;
   next_arguments = λ n. memory-items-stay.next_arguments n;
   pushes = λ frame j n. memory-items-stay.pushes frame j n;
-  controls = λ n frame place. control-items-stay reach n frame homes place;
+  controls = λ n frame place. control-items-stay reach n frame homes saved place;
 }
 
-pub items-within : (homes : ℕ) (reach : Reach) (frame : ℕ) (live : Reg → Bool) (staged : List Bool) (choices : List Choice) (labels place : ℕ) (n : Node) → IsAsked n live staged choices labels → StayWithin (moves_stack X86_64 n.op) (node_items homes reach n frame choices staged place)
-items-within homes reach frame live staged choices labels place n k =
-    fit.items-stay X86_64 needs (x86_families homes reach) StaysWithin (families-stay homes reach) frame live k.chosen.set staged choices place n (fit.are-made X86_64 needs (x86_families homes reach) n live staged choices labels k)
+pub items-within : (homes saved : ℕ) (reach : Reach) (frame : ℕ) (live : Reg → Bool) (staged : List Bool) (choices : List Choice) (labels place : ℕ) (n : Node) → IsAsked n live staged choices labels → StayWithin (moves_stack X86_64 n.op) (node_items homes saved reach n frame choices staged place)
+items-within homes saved reach frame live staged choices labels place n k =
+    fit.items-stay X86_64 needs (x86_families homes saved reach) StaysWithin (families-stay homes saved reach) frame live k.chosen.set staged choices place n (fit.are-made X86_64 needs (x86_families homes saved reach) n live staged choices labels k)
 
 -- ---- what is asked of a node
 pub asked-of : (n : Node) (live : Reg → Bool) (staged : List Bool) (choices : List Choice) (labels : ℕ) (xs : List Operand) → InForm n → AreChosen n live staged choices
@@ -127,6 +127,6 @@ asked-of n live staged choices labels xs formed chosen first named takes e words
     record { formed = formed; chosen = chosen; first = first; named = named; takes = takes; words = subst HaveWords e words }
 
 -- items that are those of the node can be appended
-pub made-fits : (homes : ℕ) (reach : Reach) (frame : ℕ) (live : Reg → Bool) (staged : List Bool) (choices : List Choice) (labels place : ℕ) (n : Node) (items : List Item) → IsFrame frame
-    → IsAsked n live staged choices labels → items ≡ node_items homes reach n frame choices staged place → AreEmittable labels items
-made-fits homes reach frame live staged choices labels place n items sized k e = subst (AreEmittable labels) (sym e) (items-fit homes reach frame live staged choices labels place n sized k)
+pub made-fits : (homes saved : ℕ) (reach : Reach) (frame : ℕ) (live : Reg → Bool) (staged : List Bool) (choices : List Choice) (labels place : ℕ) (n : Node) (items : List Item) → IsFrame frame
+    → IsAsked n live staged choices labels → items ≡ node_items homes saved reach n frame choices staged place → AreEmittable labels items
+made-fits homes saved reach frame live staged choices labels place n items sized k e = subst (AreEmittable labels) (sym e) (items-fit homes saved reach frame live staged choices labels place n sized k)

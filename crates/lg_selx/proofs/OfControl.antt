@@ -12,6 +12,7 @@ pub mod SpareLemmas
 pub mod StretchLemmas
 pub mod SumBranchLemmas
 pub mod SumLemmas
+pub mod TakenLemmas
 pub mod TargetLemmas
 pub mod TwoWayLemmas
 pub mod WalkLemmas

@@ -2,14 +2,11 @@
 use Rattle.std.proofs.Common.{◌≡◌, Bool, true, false, List, [], ◌∷◌}
 use Rattle.std.specs.Prelude.{◌||◌}
 use Rattle.std.specs.List.{list_any}
+use Rattle.std.proofs.lemmas.Bool.{or_parts}
 use Rattle.lg_op.specs.declared.operand.Operand.{Operand}
 use Rattle.lg_op.specs.declared.operand.Operand.TheVariants as operand
 use Rattle.lg_carry.specs.Memory.Operands.{is_label}
 use Rattle.lg_selx_values.specs.ValueLaws.{IsUnlabelled, AreUnlabelled}
-
-either-false : (a b : Bool) → (a || b) ≡ false → (a ≡ false) × (b ≡ false)
-either-false true b e = cc
-either-false false b e = (cc, e)
 
 is-unlabelled : (x : Operand) → is_label x ≡ false → IsUnlabelled x
 is-unlabelled (operand.Label l) e = cc
@@ -20,4 +17,4 @@ is-unlabelled (operand.Slot k) e = tt
 
 pub are-unlabelled : (xs : List Operand) → list_any is_label xs ≡ false → AreUnlabelled xs
 are-unlabelled [] e = tt
-are-unlabelled (x ∷ xs) e = let h = either-false (is_label x) (list_any is_label xs) e in (is-unlabelled x h.0, are-unlabelled xs h.1)
+are-unlabelled (x ∷ xs) e = let h = or_parts (is_label x) (list_any is_label xs) e in (is-unlabelled x h.0, are-unlabelled xs h.1)

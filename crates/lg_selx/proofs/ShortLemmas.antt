@@ -1,6 +1,6 @@
 -- Code that leads back to a label has the shortest form that reaches it, and code that leads ahead the near one.
 use Rattle.std.proofs.Common.{◌≡◌, ℕ, ◌+◌, ◌-◌, Bool, true, false, List, [], ◌∷◌, ◌++◌, length, Option, Some, None, refl, sym, ap, ◌∙◌, subst, arith}
-use Rattle.std.specs.Prelude.{◌==◌, ◌&&◌, ◌%◌, ◌^◌, pos, negsuc, ◌-ℤ◌, nat_le, nat_lt, if◌then◌else◌, slice_get, slice_index}
+use Rattle.std.specs.Prelude.{◌==◌, ◌&&◌, ◌%◌, ◌^◌, pos, ◌-ℤ◌, nat_lt, if◌then◌else◌, slice_get, slice_index}
 use Rattle.std.proofs.lemmas.Int.{ints}
 use Rattle.lg_base.specs.HostNames.{host_address}
 use Rattle.lg_base.specs.Layout.{code_base}
@@ -38,12 +38,12 @@ use Rattle.lg_sel.specs.Selected.{IsFinished, part_of}
 use Rattle.lg_sel.specs.Shorts.{x86_is_relative, LeadsBy, IsShortJumpIf, IsShortX86Jump, IsShort, IsJumpIfAhead, IsX86JumpAhead, IsAhead}
 use Rattle.lg_sel.proofs.OfControl.ControlLemmas.{differ, never, never-sum}
 use Rattle.lg_sel.specs.Holes.{Each}
-use Rattle.lg_sel.specs.Reaches.{near_size, Leads, LeadsTo, IsLeast, IsLeastAhead}
+use Rattle.lg_sel.specs.Reaches.{may_wait, reach_ahead, Leads, LeadsTo, IsChecked, IsLeast}
 use Rattle.lg_sel.specs.declared.reach.Reach.{Reach}
 use Rattle.lg_sel.specs.declared.reach.Reach.TheVariants.{Short, Near, Far}
 use Rattle.lg_selx.proofs.OfControl.ControlLemmas.{blanks-ones, branch-settled}
 use Rattle.lg_selx.specs.Control.Branches.{comparison, is_difference, far_number, pointer_comparison, wide_comparison, word_comparison, before_branch, taken}
-use Rattle.lg_selx.specs.Control.ControlItems.{jump_kind, plain_kind, branch_if_items, jump_items, branch_items, sum_items, control_items}
+use Rattle.lg_selx.specs.Control.ControlItems.{jump_kind, branch_if_items, jump_items, branch_items, sum_items, control_items}
 use Rattle.lg_selx.specs.Control.SumBranches.{sum_row, sum_number, number_sum, before_sum_branch, sum_taken}
 use Rattle.lg_selx.specs.Control.TwoWays.{jump_if}
 use Rattle.lg_selx_values.proofs.ItemLemmas.{fixes-append, fixes-ones}
@@ -194,7 +194,7 @@ module _ (old new : Buffer) (code : List ℕ) (c : Code) (i : ℕ) (f : IsFinish
       (let z : place + 0 ≡ place = omega arith in subst (λ p. has_form p (leap ∷ [])) (sym z) form)
 
   -- ---- back to a label that is bound
-  module _ (goal frame homes : ℕ) where
+  module _ (goal frame homes saved : ℕ) where
     does-of : (l : Label) (g : Fix) (gs : List Fix) → place_of old.labels l.0 ≡ Some goal → gs ≡ g ∷ [] → g.label ≡ record { 0 = l.0 } → Fits g.kind g.place goal → Each (Leads old) gs
     does-of l g gs bound is same fits =
         subst (Each (Leads old)) (sym is) (subst (LeadsTo old.size g) (sym (ap (λ m. place_of old.labels m.0) same ∙ bound)) fits, tt)
@@ -229,10 +229,10 @@ module _ (old new : Buffer) (code : List ℕ) (c : Code) (i : ℕ) (f : IsFinish
 
     -- what is known of the operands of a node with this reach
     abbrev IsKnown : Reach → Op → List Operand → Type 0
-    IsKnown r o xs = selection.IsKnown x86_holes IsItem old new to goal (λ s. control_items s o xs frame homes place) r o xs
+    IsKnown r o xs = selection.IsKnown x86_holes IsItem old new to goal (λ s. control_items s o xs frame homes saved place) r o xs
 
-    short : (r : Reach) (o : Op) (xs : List Operand) → IsKnown r o xs → (b : IsBranchTo xs (λ s. control_items s o xs frame homes place)) → IsLed (IsShortJumpIf goal)
-    short r o xs k b = let L = k.labels b.label b.names in branch-short r xs (λ s. control_items s o xs frame homes place) b k.appended k.fit L.0 L.1 k.least
+    short : (r : Reach) (o : Op) (xs : List Operand) → IsKnown r o xs → (b : IsBranchTo xs (λ s. control_items s o xs frame homes saved place)) → IsLed (IsShortJumpIf goal)
+    short r o xs k b = let L = k.labels b.label b.names in branch-short r xs (λ s. control_items s o xs frame homes saved place) b k.appended k.fit L.0 L.1 k.least
 
     pub node-short : (r : Reach) (o : Op) (xs : List Operand) (l : Label) → slice_get xs 0 ≡ Some (operand.Label l) → IsKnown r o xs → IsShort X86_64 o goal place part
     node-short r (op.Branch o last) xs l first k = short r (op.Branch o last) xs k (branch-leads frame o last xs k.admitted)
@@ -243,33 +243,38 @@ module _ (old new : Buffer) (code : List ℕ) (c : Code) (i : ℕ) (f : IsFinish
     node-short r (op.Control control.Finish last_operand.Immediate) xs l first k = tt
     node-short r o xs l first k = tt
 
-  -- ---- ahead to one that is not
-  branch-ahead : (r : Reach) (is_near : Bool) (xs : List Operand) (items : Reach → List Item) (k : IsBranchTo xs items) → AreAppended x86_holes old new (items r)
-      → AreItems (items r) → IsLeastAhead is_near (λ s. Each (Leads old) (fixes_of place (items s))) r → IsLed IsJumpIfAhead
-  branch-ahead Short is_near xs items k appended fit least = absurd least
-  branch-ahead Near is_near xs items k appended fit least = branch-led xs items k IsJumpIfAhead Near appended fit _ refl refl (k.holds, _, refl)
-  branch-ahead Far is_near xs items k appended fit least = branch-led xs items k IsJumpIfAhead Far appended fit _ refl refl (k.holds, _, refl)
+  -- ---- ahead to one that is not: a field of 8 bits does not wait for it
+  never-waits : (l : Label) (g : Fix) (gs : List Fix) → place_of old.labels l.0 ≡ None → gs ≡ g ∷ [] → g.label ≡ record { 0 = l.0 } → g.kind ≡ X86Rel8
+      → Each (IsChecked Short old) gs → ⊥
+  never-waits l g gs free is same short checked =
+      let one : IsChecked Short old g = (subst (Each (IsChecked Short old)) is checked).0 in
+      let waits : LeadsTo old.size g None = subst (LeadsTo old.size g) (ap (λ m. place_of old.labels m.0) same ∙ free) (one tt) in
+      differ (sym (ap (λ kind. may_wait kind old.size) short) ∙ waits)
 
-  jump-ahead : (r : Reach) (is_near : Bool) (l : Label) → AreAppended x86_holes old new (jump_items r (operand.Label l ∷ [])) → AreItems (jump_items r (operand.Label l ∷ []))
-      → IsLeastAhead is_near (λ s. Each (Leads old) (fixes_of place (jump_items s (operand.Label l ∷ [])))) r → IsLed IsX86JumpAhead
-  jump-ahead Short is_near l appended fit least = absurd least
-  jump-ahead Near is_near l appended fit least = jump-led IsX86JumpAhead _ (jump_items Near (operand.Label l ∷ [])) appended fit refl refl (_, refl)
-  jump-ahead Far is_near l appended fit least = jump-led IsX86JumpAhead _ (jump_items Far (operand.Label l ∷ [])) appended fit refl refl (_, refl)
+  branch-ahead : (r : Reach) (xs : List Operand) (items : Reach → List Item) (k : IsBranchTo xs items) → AreAppended x86_holes old new (items r)
+      → AreItems (items r) → place_of old.labels k.label.0 ≡ None → Each (IsChecked r old) (fixes_of place (items r)) → IsLed IsJumpIfAhead
+  branch-ahead Short xs items k appended fit free checked =
+      absurd (never-waits k.label (jump-fix Short (from xs items k) k.label) _ free (branch-fix xs items k Short) refl refl checked)
+  branch-ahead Near xs items k appended fit free checked = branch-led xs items k IsJumpIfAhead Near appended fit _ refl refl (k.holds, _, refl)
+  branch-ahead Far xs items k appended fit free checked = branch-led xs items k IsJumpIfAhead Far appended fit _ refl refl (k.holds, _, refl)
 
-  module _ (frame homes : ℕ) where
+  jump-ahead : (r : Reach) (l : Label) → AreAppended x86_holes old new (jump_items r (operand.Label l ∷ [])) → AreItems (jump_items r (operand.Label l ∷ []))
+      → place_of old.labels l.0 ≡ None → Each (IsChecked r old) (fixes_of place (jump_items r (operand.Label l ∷ []))) → IsLed IsX86JumpAhead
+  jump-ahead Short l appended fit free checked = absurd (never-waits l (plain-fix Short place l) _ free (plain-fixes Short place l) refl refl checked)
+  jump-ahead Near l appended fit free checked = jump-led IsX86JumpAhead _ (jump_items Near (operand.Label l ∷ [])) appended fit refl refl (_, refl)
+  jump-ahead Far l appended fit free checked = jump-led IsX86JumpAhead _ (jump_items Far (operand.Label l ∷ [])) appended fit refl refl (_, refl)
+
+  module _ (frame homes saved : ℕ) where
     abbrev IsKnownAhead : Reach → Op → List Operand → Type 0
-    IsKnownAhead r o xs = selection.IsKnownAhead x86_holes IsItem old new (λ s. control_items s o xs frame homes place) r o xs
+    IsKnownAhead r o xs = selection.IsKnownAhead x86_holes IsItem old new (λ s. control_items s o xs frame homes saved place) r o xs
 
-    abbrev is_near : Bool
-    is_near = nat_le old.size near_size
+    ahead : (r : Reach) (o : Op) (xs : List Operand) → IsKnownAhead r o xs → IsBranchTo xs (λ s. control_items s o xs frame homes saved place) → IsLed IsJumpIfAhead
+    ahead r o xs k b = branch-ahead r xs (λ s. control_items s o xs frame homes saved place) b k.appended k.fit (k.labels b.label b.names) k.checked
 
-    ahead : (r : Reach) (o : Op) (xs : List Operand) → IsKnownAhead r o xs → IsBranchTo xs (λ s. control_items s o xs frame homes place) → IsLed IsJumpIfAhead
-    ahead r o xs k b = branch-ahead r is_near xs (λ s. control_items s o xs frame homes place) b k.appended k.fit k.least
-
-    pub node-ahead : (r : Reach) (o : Op) (xs : List Operand) (l : Label) → slice_get xs 0 ≡ Some (operand.Label l) → IsKnownAhead r o xs → IsAhead X86_64 is_near o place part
+    pub node-ahead : (r : Reach) (o : Op) (xs : List Operand) (l : Label) → slice_get xs 0 ≡ Some (operand.Label l) → IsKnownAhead r o xs → IsAhead X86_64 (reach_ahead old.size) o place part
     node-ahead r (op.Branch o last) xs l first k = ahead r (op.Branch o last) xs k (branch-leads frame o last xs k.admitted)
     node-ahead r (op.BranchSum o last) xs l first k = ahead r (op.BranchSum o last) xs k (sum-leads frame o last xs k.admitted)
-    node-ahead r (op.Control control.Jmp last_operand.Immediate) (operand.Label m ∷ []) l first k = jump-ahead r is_near m k.appended k.fit k.least
+    node-ahead r (op.Control control.Jmp last_operand.Immediate) (operand.Label m ∷ []) l first k = jump-ahead r m k.appended k.fit (k.labels m refl) k.checked
     node-ahead r (op.Control control.Jmp last_operand.Immediate) xs l first k = absurd (differ k.admitted)
     node-ahead r (op.Control control.Call last_operand.Immediate) xs l first k = tt
     node-ahead r (op.Control control.Finish last_operand.Immediate) xs l first k = tt

@@ -1,6 +1,6 @@
 -- The items of each node have at most 256 bytes.
-use Rattle.std.proofs.Common.{◌≡◌, ◌⊎◌, ⊎_elim, ℕ, zero, suc, ◌<◌, ◌≤◌, Bool, true, false, List, [], ◌∷◌, ◌++◌, length, refl, sym, ap, subst, arith}
-use Rattle.std.specs.Prelude.{◌==◌, ◌&&◌, ◌%◌, ◌^◌, pos, negsuc, if◌then◌else◌, Option, Some, None}
+use Rattle.std.proofs.Common.{◌≡◌, ◌⊎◌, ⊎_elim, ℕ, zero, suc, ◌<◌, ◌≤◌, Bool, true, false, List, [], ◌∷◌, ◌++◌, length, length-append, refl, sym, ap, subst, arith}
+use Rattle.std.specs.Prelude.{◌==◌, ◌&&◌, ◌%◌, ◌^◌, pos, if◌then◌else◌, Option, Some, None}
 use Rattle.lg_base.specs.HostNames.{host_address}
 use Rattle.lg_base.specs.Words.{signed_view, is_half}
 use Rattle.lg_base.specs.declared.target.Target.TheVariants.{X86_64}
@@ -35,10 +35,11 @@ use Rattle.lg_selx.specs.Selected.{needs, IsAsked}
 use Rattle.lg_selx.specs.Control.Alignments.{padding, idle}
 use Rattle.lg_selx.specs.Control.Branches.{comparison, is_difference, far_number, pointer_comparison, wide_comparison, word_comparison, before_branch}
 use Rattle.lg_selx.specs.Control.ControlItems.{branch_items, sum_items, jump_items, call_items, result_items, ret_items, register_jump_items, register_call_items, leap_items, align_items, plain_items, control_items}
-use Rattle.lg_sel.proofs.OfControl.StoreLemmas.{stores-before}
-use Rattle.lg_selx.proofs.OfControl.FitLemmas.{stored-few}
-use Rattle.lg_selx.specs.Control.Prologs.{stored_registers, store_word, lowered, prolog_code}
-use Rattle.lg_selx.specs.Control.Returns.{return_code}
+use Rattle.lg_sel.proofs.OfControl.StoreLemmas.{stores-long}
+use Rattle.lg_sel.specs.Control.Stores.{kept_registers, home_registers}
+use Rattle.lg_selx.proofs.OfControl.FitLemmas.{kept-few, homes-few}
+use Rattle.lg_selx.specs.Control.Prologs.{store_word, stores_below, stored_code, lowered, prolog_code}
+use Rattle.lg_selx.specs.Control.Returns.{restores, leave_code, restore_code, return_code}
 use Rattle.lg_selx.specs.Control.SumBranches.{sum_row, sum_number, number_sum, before_sum_branch}
 use Rattle.lg_selx_values.proofs.ItemLemmas.{words_append, words-ones}
 use Rattle.lg_selx_values.specs.Items.{words_in, blanks, ones}
@@ -52,6 +53,8 @@ use Rattle.lg_temp.proofs.ChoiceLemmas.{choices-are-for}
 use Rattle.lg_temp.specs.Abis.{register_of}
 use Rattle.lg_temp.specs.Chosen.{around}
 use Rattle.lg_temp.specs.declared.choice.Choice.{Choice}
+use Rattle.std.proofs.lemmas.List.{length-take}
+use Rattle.lg_x86.specs.declared.instruction.BareOp.TheVariants.{Ret}
 use Rattle.lg_x86.specs.declared.instruction.ImmOp.TheVariants.{Andi, Cmpi}
 use Rattle.lg_x86.specs.declared.instruction.Instr.{Instr}
 use Rattle.lg_x86.specs.declared.instruction.Instr.TheVariants as instr
@@ -169,9 +172,19 @@ result-few (operand.Number v) = omega arith
 result-few (operand.Host name) = omega arith
 result-few (operand.Slot k) = omega arith
 
-returned-small : (xs : List Operand) → Small (ret_items xs)
-returned-small (x ∷ []) = let w = words_append (result_items x) (ones return_code) in let r = result-few x in few-small (result_items x ++ ones return_code) 7 (omega (arith, w, r)) (omega arith)
-returned-small xs = none-small
+return-long : (saved : ℕ) → length (return_code saved) ≤ 6
+return-long saved =
+    let all = length-append (restore_code saved) (instr.Bare Ret ∷ []) in
+    let front = length-append (restores saved) leave_code in
+    let most = length-take saved (restores 3) in omega (arith, all, front, most)
+
+returned-small : (saved : ℕ) (xs : List Operand) → Small (ret_items saved xs)
+returned-small saved (x ∷ []) =
+    let w = words_append (result_items x) (ones (return_code saved)) in
+    let r = result-few x in
+    let l = words-ones (return_code saved) in
+    let long = return-long saved in few-small (result_items x ++ ones (return_code saved)) 7 (omega (arith, w, r, l, long)) (omega arith)
+returned-small saved xs = none-small
 
 register-jumped-small : (xs : List Operand) → Small (register_jump_items xs)
 register-jumped-small (operand.Reg a ∷ []) = few-small (register_jump_items (operand.Reg a ∷ [])) 1 (omega arith) (omega arith)
@@ -181,51 +194,57 @@ register-called-small : (xs : List Operand) → Small (register_call_items xs)
 register-called-small (operand.Reg a ∷ []) = few-small (register_call_items (operand.Reg a ∷ [])) 3 (omega arith) (omega arith)
 register-called-small xs = none-small
 
-leaps-small : (reach : Reach) (o : ControlOp) (last : LastOperand) (xs : List Operand) → Small (leap_items reach o last xs)
-leaps-small reach control.Jmp last_operand.Immediate xs = jumped-small reach xs
-leaps-small reach control.Jmp last_operand.Register xs = register-jumped-small xs
-leaps-small reach control.Call last_operand.Immediate xs = called-small xs
-leaps-small reach control.Call last_operand.Register xs = register-called-small xs
-leaps-small reach control.Finish last_operand.Immediate xs = called-small xs
-leaps-small reach control.Finish last_operand.Register xs = register-called-small xs
-leaps-small reach control.Ret last xs = returned-small xs
-leaps-small reach control.Pusharg last xs = none-small
+leaps-small : (reach : Reach) (saved : ℕ) (o : ControlOp) (last : LastOperand) (xs : List Operand) → Small (leap_items reach saved o last xs)
+leaps-small reach saved control.Jmp last_operand.Immediate xs = jumped-small reach xs
+leaps-small reach saved control.Jmp last_operand.Register xs = register-jumped-small xs
+leaps-small reach saved control.Call last_operand.Immediate xs = called-small xs
+leaps-small reach saved control.Call last_operand.Register xs = register-called-small xs
+leaps-small reach saved control.Finish last_operand.Immediate xs = called-small xs
+leaps-small reach saved control.Finish last_operand.Register xs = register-called-small xs
+leaps-small reach saved control.Ret last xs = returned-small saved xs
+leaps-small reach saved control.Pusharg last xs = none-small
 
-prolog-long : (frame homes : ℕ) → length (prolog_code frame homes) ≤ 12
-prolog-long frame homes =
-    let long = stores-before store_word (stored_registers homes) 2 (lowered frame) in
-    let few = stored-few homes in omega (arith, long, few)
+pub prolog-long : (frame homes saved : ℕ) → length (prolog_code saved frame homes) ≤ 12
+prolog-long frame homes saved =
+    let kept : List ℕ = kept_registers X86_64 saved in
+    let read : List ℕ = home_registers X86_64 homes in
+    let all = length-append (stored_code saved homes) (lowered frame) in
+    let both = length-append (stores_below kept 2) (stores_below read 5) in
+    let first = stores-long store_word kept 2 in
+    let last = stores-long store_word read 5 in
+    let few = kept-few saved in
+    let most = homes-few homes in omega (arith, all, both, first, last, few, most)
 
-plain-small : (o : PlainOp) (xs : List Operand) (frame homes at : ℕ) → admit (forms_of (op.Plain o)) xs ≡ true → Small (plain_items o xs frame homes at)
-plain-small plain.Prolog xs frame homes at a = code-small (prolog_code frame homes) 12 (prolog-long frame homes) (omega arith)
-plain-small plain.Epilog xs frame homes at a = code-small return_code 6 (omega arith) (omega arith)
-plain-small plain.Ret xs frame homes at a = code-small return_code 6 (omega arith) (omega arith)
-plain-small plain.Align xs frame homes at a = aligned-small at xs a
-plain-small o xs frame homes at a = none-small
+plain-small : (o : PlainOp) (xs : List Operand) (frame homes saved at : ℕ) → admit (forms_of (op.Plain o)) xs ≡ true → Small (plain_items o xs frame homes saved at)
+plain-small plain.Prolog xs frame homes saved at a = code-small (prolog_code saved frame homes) 12 (prolog-long frame homes saved) (omega arith)
+plain-small plain.Epilog xs frame homes saved at a = code-small (return_code saved) 6 (return-long saved) (omega arith)
+plain-small plain.Ret xs frame homes saved at a = code-small (return_code saved) 6 (return-long saved) (omega arith)
+plain-small plain.Align xs frame homes saved at a = aligned-small at xs a
+plain-small o xs frame homes saved at a = none-small
 
-control-small : (reach : Reach) (o : Op) (xs : List Operand) (frame homes at : ℕ) → admit (forms_of o) xs ≡ true → Small (control_items reach o xs frame homes at)
-control-small reach (op.Branch o last) xs frame homes at a = branched-small reach frame o xs
-control-small reach (op.BranchSum o last) xs frame homes at a = summed-small reach frame o xs
-control-small reach (op.Control o last) xs frame homes at a = leaps-small reach o last xs
-control-small reach (op.Plain o) xs frame homes at a = plain-small o xs frame homes at a
-control-small reach o xs frame homes at a = none-small
+control-small : (reach : Reach) (o : Op) (xs : List Operand) (frame homes saved at : ℕ) → admit (forms_of o) xs ≡ true → Small (control_items reach o xs frame homes saved at)
+control-small reach (op.Branch o last) xs frame homes saved at a = branched-small reach frame o xs
+control-small reach (op.BranchSum o last) xs frame homes saved at a = summed-small reach frame o xs
+control-small reach (op.Control o last) xs frame homes saved at a = leaps-small reach saved o last xs
+control-small reach (op.Plain o) xs frame homes saved at a = plain-small o xs frame homes saved at a
+control-small reach o xs frame homes saved at a = none-small
 
 -- ---- every node
-module _ (homes : ℕ) (reach : Reach) (frame : ℕ) (sized : IsFrame frame) (live : Reg → Bool) (staged : List Bool) (choices : List Choice) (labels place : ℕ) where
+module _ (homes saved : ℕ) (reach : Reach) (frame : ℕ) (sized : IsFrame frame) (live : Reg → Bool) (staged : List Bool) (choices : List Choice) (labels place : ℕ) where
   abbrev IsSmall : Node → List Item → Type 0
   IsSmall n xs = IsAsked n live staged choices labels → Small xs
 
   near : frame < 0x40000000
   near = let h = sized.high in omega (arith, h)
 
-  values-small : (n : Node) → is_value n.op ≡ true → IsSmall n ((x86_families homes reach).values frame n choices)
+  values-small : (n : Node) → is_value n.op ≡ true → IsSmall n ((x86_families homes saved reach).values frame n choices)
   values-small n is k =
       let set = k.chosen.set in
       let are = made-values n live set choices (value-is-none n.op is) (choices-are-for (around X86_64 n live set) (needs n.op) choices k.chosen.chosen) in
       let fit = value-items-fit frame n live set choices sized.low sized.high k.words are in
       let s = fit.small in omega (arith, s)
 
-  families-small : HoldsOfFamilies (x86_families homes reach) IsSmall frame choices staged place
+  families-small : HoldsOfFamilies (x86_families homes saved reach) IsSmall frame choices staged place
   families-small = record {
     values = values-small;
     loads = λ n t at e k. few-small _ 4 (memory-items-fit.loads frame t at n near (has-words n k.words)).short (omega arith);
@@ -236,8 +255,8 @@ module _ (homes : ℕ) (reach : Reach) (frame : ℕ) (sized : IsFrame frame) (li
     arguments = λ n t e k. few-small _ 1 (memory-items-fit.arguments frame t n near).short (omega arith);
     next_arguments = λ n e k. few-small (ones (next_argument_code n)) 8 (memory-items-fit.next_arguments n).short (omega arith);
     pushes = λ n last e k. few-small _ 3 (memory-items-fit.pushes frame (staged_count staged) n near (few-staged n live staged choices labels last k e) (has-words n k.words 0)).short (omega arith);
-    controls = λ n is k. control-small reach n.op n.operands frame homes place k.formed.forms;
+    controls = λ n is k. control-small reach n.op n.operands frame homes saved place k.formed.forms;
   }
 
-  pub items-small : (n : Node) → IsSmall n (node_items homes reach n frame choices staged place)
-  items-small = of-node (x86_families homes reach) IsSmall frame choices staged place families-small
+  pub items-small : (n : Node) → IsSmall n (node_items homes saved reach n frame choices staged place)
+  items-small = of-node (x86_families homes saved reach) IsSmall frame choices staged place families-small

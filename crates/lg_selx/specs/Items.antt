@@ -18,21 +18,22 @@ use Rattle.lg_selx.specs.Selected.{is_store}
 use Rattle.lg_selx_values.specs.ValueItems.{value_items}
 use Rattle.lg_temp.specs.declared.choice.Choice.{Choice}
 
--- with this reach, in a function that reads so many homes
-abbrev pub x86_families : ℕ → Reach → Families Item
-x86_families homes reach = record {
+-- with this reach, in a function that reads so many homes, where frames save so many of V0, V1 and V2
+abbrev pub x86_families : ℕ → ℕ → Reach → Families Item
+x86_families homes saved reach = record {
   values = value_items;
   load = λ frame t at n choices. ones (load_code frame t at n);
   store = λ frame t at n choices. store_items t at n choices;
   argument = λ frame t n. ones (argument_code frame t n);
   next_argument = λ n. ones (next_argument_code n);
   push = push_code;
-  control = λ o xs frame place. control_items reach o xs frame homes place;
+  control = λ o xs frame place. control_items reach o xs frame homes saved place;
 }
 
--- those of a node of a function with such a frame and so many homes, with these choices, where these arguments are staged and the code begins at a place
-abbrev pub node_items : ℕ → Reach → Node → ℕ → List Choice → List Bool → ℕ → List Item
-node_items homes reach n frame choices staged place = families.node_items (x86_families homes reach) n frame choices staged place
+-- those of a node of a function with such a frame and so many homes, where frames save so many, with these choices, where these arguments are staged and
+-- the code begins at a place
+abbrev pub node_items : ℕ → ℕ → Reach → Node → ℕ → List Choice → List Bool → ℕ → List Item
+node_items homes saved reach n frame choices staged place = families.node_items (x86_families homes saved reach) n frame choices staged place
 
 -- what is asked of a node, the size of the frame, the choices, and the arguments that are staged
 pub record IsGiven (n : Node) (frame : ℕ) (choices : List Choice) (staged : List Bool) : Type 0 where

@@ -1,6 +1,7 @@
 -- The registers that are taken for the needs of a node.
 use Rattle.std.proofs.Common.{◌≡◌, ◌≢◌, ℕ, ◌⊎◌, inl, inr, Bool, true, false, List, [], ◌∷◌, ◌++◌, refl, sym, ap, ◌∙◌, subst, arith}
 use Rattle.std.specs.Prelude.{◌==◌, ◌||◌, ◌&&◌, if◌then◌else◌}
+use Rattle.std.proofs.lemmas.Bool.{and_parts}
 use Rattle.lg_base.specs.declared.target.Target.TheVariants.{X86_64}
 use Rattle.lg_op.specs.declared.node.Node.{Node}
 use Rattle.lg_op.specs.declared.operand.Reg.{Reg}
@@ -51,15 +52,11 @@ pub record IsStoodFor (set : Reg → Bool) (x : ℕ) : Type 0 where
   pub among : set register ≡ true
   pub is : register_of X86_64 register ≡ x
 
-both : (b c : Bool) → (b && c) ≡ true → (b ≡ true) × (c ≡ true)
-both true c e = (refl, e)
-both false c e = cc
-
 one-of : (set : Reg → Bool) (x : ℕ) (p : Reg) (rest : Bool) → p ≢ Fp → ((set p && (register_of X86_64 p == x)) || rest) ≡ true → (rest ≡ true → IsStoodFor set x) → IsStoodFor set x
 one-of set x p rest named e again = by (set p && (register_of X86_64 p == x)) refl e
   where
     by : (b : Bool) → (set p && (register_of X86_64 p == x)) ≡ b → (b || rest) ≡ true → IsStoodFor set x
-    by true f g = let k = both (set p) (register_of X86_64 p == x) f in let z : register_of X86_64 p ≡ x = (let y = k.1 in grind (arith, y)) in record { register = p; named = named; among = k.0; is = z }
+    by true f g = let k = and_parts (set p) (register_of X86_64 p == x) f in let z : register_of X86_64 p ≡ x = (let y = k.1 in grind (arith, y)) in record { register = p; named = named; among = k.0; is = z }
     by false f g = again g
 
 pub stood-for : (set : Reg → Bool) (x : ℕ) → stands_in X86_64 set x ≡ true → IsStoodFor set x
@@ -67,7 +64,7 @@ stood-for set x e =
     one-of set x R0 _ (λ z. cc) e (λ f. one-of set x R1 _ (λ z. cc) f (λ g. one-of set x R2 _ (λ z. cc) g (λ h. one-of set x V0 _ (λ z. cc) h (λ k. one-of set x V1 _ (λ z. cc) k (λ m. one-of set x V2 _ (λ z. cc) m (λ n. cc))))))
 
 same-number : (d p : Reg) → is_same d p ≡ true → number_of d ≡ number_of p
-same-number d p e = let z = (both (number_of d == number_of p) _ e).0 in grind (arith, z)
+same-number d p e = let z = (and_parts (number_of d == number_of p) _ e).0 in grind (arith, z)
 
 register-at : ℕ → ℕ
 register-at n = if n == 0 then 0 else if n == 1 then 10 else if n == 2 then 11 else if n == 3 then 3 else if n == 4 then 13 else if n == 5 then 14 else 5

@@ -2,6 +2,7 @@
 use Rattle.std.proofs.Common.{◌≡◌, ◌≢◌, ℕ, ◌+◌, ◌-◌, ◌*◌, ◌/◌, ◌%◌, ◌^◌, ◌<◌, Bool, true, false, List, [], ◌∷◌, ◌++◌, Option, Some, refl, sym, ap, subst, ◌∙◌, arith}
 use Rattle.std.specs.Prelude.{◌==◌, ◌||◌, not, if◌then◌else◌, bit_and, bit_or, bit_xor}
 use Rattle.std.specs.Option.{option_and_then}
+use Rattle.std.proofs.lemmas.Bool.{or_parts}
 use Rattle.lg_base.specs.Words.{add_words, sub_words, mul_words, negated, signed_view, word_of_test, quotient, remainder, quotient_signed, remainder_signed, shifted_left, shifted_right, shifted_right_signed, is_half}
 use Rattle.lg_base.specs.Wide.{zero_part_of, quotient_wide, quotient_wide_signed}
 use Rattle.lg_base.specs.declared.flags.Flags.{Flags}
@@ -57,10 +58,6 @@ where-is false n z e = cc
 
 add-negated : (a v : ℕ) → a < 2 ^ 64 → v < 2 ^ 64 → add_words (negated a) v ≡ sub_words v a
 add-negated a v h k = grind (arith, h, k)
-
-either-false : (b c : Bool) → (b || c) ≡ false → (b ≡ false) × (c ≡ false)
-either-false true c e = cc
-either-false false c e = (refl, e)
 
 module _ (frame d a v : ℕ) (q : Held) (d5 : d ≢ 5) (d4 : d ≢ 4) (small : v < 2 ^ 64) (words : (r : ℕ) → q.registers r < 2 ^ 64) (pointer : add_words (q.registers 4) (frame - 16) ≡ q.registers 5) where
   abbrev w : ℕ → ℕ
@@ -194,7 +191,7 @@ module _ (choices : List Choice) (frame r d a v : ℕ) (q : Held) (d5 : d ≢ 5)
   x7-keeps high t ne free = by (t == 5) refl
     where
       off : ((t == 0) ≡ false) × ((t == 2) ≡ false)
-      off = either-false (t == 0) (t == 2) (lends t free ne)
+      off = or_parts (t == 0) (t == 2) (lends t free ne)
 
       by : (k : Bool) → (t == 5) ≡ k → x7 high t ≡ wq t
       by true e =

@@ -2,6 +2,7 @@
 use Rattle.std.proofs.Common.{◌≡◌, ◌≢◌, ℕ, ◌-◌, ◌<◌, ◌^◌, Bool, true, false, List, ◌++◌, Some, refl, ap, ◌∙◌}
 use Rattle.std.specs.Prelude.{◌==◌, ◌||◌, not}
 use Rattle.std.specs.Option.{option_and_then}
+use Rattle.std.proofs.lemmas.Bool.{or_parts}
 use Rattle.lg_base.specs.Words.{add_words, mul_words, high_product, high_product_signed, quotient, remainder, quotient_signed, remainder_signed}
 use Rattle.lg_base.specs.Wide.{quotient_wide, quotient_wide_signed}
 use Rattle.lg_op.specs.declared.op.WideOp.{WideOp}
@@ -26,10 +27,6 @@ use Rattle.lg_selx_values.proofs.QuotientLemmas.{signed-quotient, unsigned-quoti
 
 pub some-same : {A : Type 0} (x y : A) → Some x ≡ Some y → x ≡ y
 some-same x y e = cc
-
-pub either-false : (b c : Bool) → (b || c) ≡ false → (b ≡ false) × (c ≡ false)
-either-false true c e = cc
-either-false false c e = (refl, e)
 
 pub record IsPairWhere (b : Bool) (m n : ℕ) (p : ℕ × ℕ) : Type 0 where
   pub holds : b ≡ true
@@ -59,7 +56,7 @@ module _ (choices : List Choice) (frame d e a b : ℕ) (q : Held) (de : d ≢ e)
 
   product-keeps : (high low r : ℕ) → r ≢ d → r ≢ e → is_taken choices r ≡ false → ends d e (product high low) r ≡ w r
   product-keeps high low r ne ne' free =
-      let off = either-false (r == 0) (r == 2) (lends r free ne ne') in
+      let off = or_parts (r == 0) (r == 2) (lends r free ne ne') in
       ends-other d e (product high low) r ne ne' ∙ put-other (put u2 0 low) 2 high r (apart r 2 off.1) ∙ put-other u2 0 low r (apart r 0 off.0) ∙ put-other u1 0 (u1 a) r (apart r 0 off.0) ∙ put-other w 2 (w b) r (apart r 2 off.1)
 
   -- quotients
@@ -71,7 +68,7 @@ module _ (choices : List Choice) (frame d e a b : ℕ) (q : Held) (de : d ≢ e)
 
   all-keeps : (high x y r : ℕ) → r ≢ d → r ≢ e → is_taken choices r ≡ false → remade frame d e (quotients high x y) r ≡ w r
   all-keeps high x y r ne ne' free =
-      let off = either-false (r == 0) (r == 2) (lends r free ne ne') in
+      let off = or_parts (r == 0) (r == 2) (lends r free ne ne') in
       remade-keeps frame d e d4 e4 w (quotients high x y) pointer refl r ne ne'
       (λ n5. put-other (put (put u3 2 high) 0 x) 2 y r (apart r 2 off.1) ∙ put-other (put u3 2 high) 0 x r (apart r 0 off.0)
       ∙ put-other u3 2 high r (apart r 2 off.1) ∙ put-other u2 5 (w b) r n5 ∙ put-other u1 0 (u1 a) r (apart r 0 off.0) ∙ put-other w 2 (w b) r (apart r 2 off.1))

@@ -1,6 +1,7 @@
 -- Nodes with two results.
 use Rattle.std.proofs.Common.{◌≡◌, ◌≢◌, ℕ, ◌<◌, ◌⊎◌, inl, inr, Bool, true, false, List, [], ◌∷◌, Some, refl, sym, ◌∙◌, length, arith}
 use Rattle.std.specs.Prelude.{◌==◌, ◌||◌}
+use Rattle.std.proofs.lemmas.Bool.{or_left, or_right, or_cases}
 use Rattle.lg_base.specs.declared.target.Target.TheVariants.{X86_64}
 use Rattle.lg_op.specs.declared.op.WideOp.{WideOp}
 use Rattle.lg_op.specs.declared.op.WideOp.TheVariants as wide
@@ -25,7 +26,6 @@ use Rattle.lg_temp.specs.declared.choice.Choice.{Choice}
 use Rattle.lg_carry.specs.FinalNodes.{Code}
 use Rattle.lg_carry.specs.Processors.{Seen}
 use Rattle.lg_carry.specs.TextNodes.{IsInText}
-use Rattle.lg_carry.proofs.StackLemmas.{or-cases}
 use Rattle.lg_carry.specs.Nodes.Straight.{HoldsRead, is_taken}
 use Rattle.lg_carry.proofs.OfNodes.RegisterLemmas.{same-self}
 use Rattle.lg_carry.specs.Values.ValueNodes.{wide_node}
@@ -37,7 +37,7 @@ use Rattle.lg_selx_values.specs.WideCode.{wide_code, wide_number_code}
 use Rattle.lg_selx_values.specs.Words.{MakesPair}
 use Rattle.lg_selx_values.proofs.NeedLemmas.{named-apart, same-register}
 use Rattle.lg_selx_values.proofs.NodeLemmas.{holding, in-frame, some-spelled}
-use Rattle.lg_carry.proofs.OfValues.TwoResultLemmas.{registers-apart, or-left, or-right, holds-two, writes-first, writes-second}
+use Rattle.lg_carry.proofs.OfValues.TwoResultLemmas.{registers-apart, holds-two, writes-first, writes-second}
 use Rattle.lg_selx_values.proofs.RegisterLemmas.{register-portable, register-not-frame}
 use Rattle.lg_selx_values.proofs.RegisterNodeLemmas.{two-named, chosen-carries}
 use Rattle.lg_selx_values.proofs.WideCodeLemmas.{some-same, wide-pairs-are-made}
@@ -63,7 +63,7 @@ module _ (c : Code) (i frame : ℕ) (o : WideOp) (last : LastOperand) (d e a : R
   writes q = both-written o last d e a x line q
 
   reads-first : a ≢ Fp → is_read n a ≡ true
-  reads-first k = or-left _ false (or-left _ false (or-right _ (is_same a a) (same-self a k)))
+  reads-first k = or_left _ false (or_left _ false (or_right _ (is_same a a) (same-self a k)))
 
   wide-makes : MakesNode c i n frame choices body
   wide-makes = record {
@@ -103,7 +103,7 @@ kept : (o : WideOp) (last : LastOperand) (d e a : Reg) (x : Operand) (line : ℕ
 kept o last d e a x line live staged choices chosen r free f g false z = refl
 kept o last d e a x line live staged choices chosen r free f g true z =
     let s = named-apart (wide_node o last d e a x line) live staged (Only 0 ∷ Only 2 ∷ []) choices r (λ q. is_same e q || is_same d q) (both-written o last d e a x line) chosen (two-named r z) free in
-    absurd (apart_of s.register s.is (or-cases (is_same e s.register) (is_same d s.register) s.among))
+    absurd (apart_of s.register s.is (or_cases (is_same e s.register) (is_same d s.register) s.among))
   where
     apart_of : (p : Reg) → register_of X86_64 p ≡ r → (is_same e p ≡ true) ⊎ (is_same d p ≡ true) → ⊥
     apart_of p is (inl h) = g (sym (same-register e p h ∙ is))
@@ -128,7 +128,7 @@ wide-registers-carry code trash c i frame o d e a b line live choices nd ne apar
     chosen-carries code trash c i frame n live choices body refl refl needs-small (omega arith) k
     (wide-makes c i frame o last_operand.Register d e a (operand.Reg b) line nd ne apart k.in_text choices body (code-some o frame rd re ra rb)
     (λ s q x y p h ex ey ep.
-    let eb : q.registers rb ≡ y = h.registers b y (λ z. or-left _ false (or-left _ false (or-left _ (is_same a b) (same-self b z)))) ey in
+    let eb : q.registers rb ≡ y = h.registers b y (λ z. or_left _ false (or_left _ false (or_left _ (is_same a b) (same-self b z)))) ey in
     let same : wide_value o (q.registers ra) (q.registers rb) ≡ wide_value o x y = (λ j. wide_value o (ex j) (eb j)) in
     wide-pairs-are-made choices frame rd re ra rb (holding q) (registers-apart X86_64 d e nd ne apart) pd.no_rdx pe.no_rdx (register-not-frame d nd) (register-not-frame e ne) pd.no_stack pe.no_stack (register-portable a).no_rdx (in-frame n frame s q h)
     (λ r free f g. kept o last_operand.Register d e a (operand.Reg b) line live k.staged choices k.chosen r free f g ((r == 0) || (r == 2)) refl) o p (same ∙ ep)))

@@ -2,6 +2,7 @@
 use Rattle.std.proofs.Common.{◌≡◌, ◌≢◌, ℕ, ◌-◌, ◌<◌, ◌^◌, false, List, ◌∷◌, ◌++◌, Some, refl, ap, ◌∙◌, arith}
 use Rattle.std.specs.Prelude.{◌==◌, ◌||◌, not}
 use Rattle.std.specs.Option.{option_and_then}
+use Rattle.std.proofs.lemmas.Bool.{or_parts}
 use Rattle.lg_base.specs.Words.{add_words, mul_words, high_product, high_product_signed, quotient, remainder, quotient_signed, remainder_signed}
 use Rattle.lg_op.specs.declared.op.WideOp.{WideOp}
 use Rattle.lg_op.specs.declared.op.WideOp.TheVariants as wide
@@ -26,7 +27,7 @@ use Rattle.lg_selx_values.specs.Words.{MakesPair}
 use Rattle.lg_selx_values.proofs.EndLemmas.{ends, ends-first, ends-second, ends-other, remade, remade-keeps}
 use Rattle.lg_selx_values.proofs.QuotientLemmas.{signed-quotient, unsigned-quotient}
 use Rattle.lg_selx_values.proofs.RegisterLemmas.{put-other, apart}
-use Rattle.lg_selx_values.proofs.WideCodeLemmas.{some-same, either-false, pair-is}
+use Rattle.lg_selx_values.proofs.WideCodeLemmas.{some-same, pair-is}
 
 module _ (choices : List Choice) (frame d e a v : ℕ) (q : Held) (de : d ≢ e) (d2 : d ≢ 2) (e2 : e ≢ 2) (d5 : d ≢ 5) (e5 : e ≢ 5) (d4 : d ≢ 4) (e4 : e ≢ 4) (small : v < 2 ^ 64) (words : (r : ℕ) → q.registers r < 2 ^ 64) (pointer : add_words (q.registers 4) (frame - 16) ≡ q.registers 5)
     (lends : (r : ℕ) → is_taken choices r ≡ false → r ≢ d → r ≢ e → ((r == 0) || (r == 2)) ≡ false) where
@@ -42,7 +43,7 @@ module _ (choices : List Choice) (frame d e a v : ℕ) (q : Held) (de : d ≢ e)
 
   product-keeps : (high low r : ℕ) → r ≢ d → r ≢ e → is_taken choices r ≡ false → ends d e (product high low) r ≡ w r
   product-keeps high low r ne ne' free =
-      let off = either-false (r == 0) (r == 2) (lends r free ne ne') in
+      let off = or_parts (r == 0) (r == 2) (lends r free ne ne') in
       ends-other d e (product high low) r ne ne' ∙ put-other (put (put u1 2 v) 0 low) 2 high r (apart r 2 off.1) ∙ put-other (put u1 2 v) 0 low r (apart r 0 off.0) ∙ put-other u1 2 v r (apart r 2 off.1) ∙ put-other w 0 (w a) r (apart r 0 off.0)
 
   -- quotients
@@ -54,7 +55,7 @@ module _ (choices : List Choice) (frame d e a v : ℕ) (q : Held) (de : d ≢ e)
 
   all-keeps : (high x y r : ℕ) → r ≢ d → r ≢ e → is_taken choices r ≡ false → remade frame d e (quotients high x y) r ≡ w r
   all-keeps high x y r ne ne' free =
-      let off = either-false (r == 0) (r == 2) (lends r free ne ne') in
+      let off = or_parts (r == 0) (r == 2) (lends r free ne ne') in
       remade-keeps frame d e d4 e4 w (quotients high x y) pointer refl r ne ne'
       (λ n5. put-other (put (put u5 2 high) 0 x) 2 y r (apart r 2 off.1) ∙ put-other (put u5 2 high) 0 x r (apart r 0 off.0) ∙ put-other u5 2 high r (apart r 2 off.1) ∙ put-other u1 5 v r n5 ∙ put-other w 0 (w a) r (apart r 0 off.0))
 

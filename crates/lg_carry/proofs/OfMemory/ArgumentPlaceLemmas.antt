@@ -3,6 +3,7 @@ use Rattle.lg_carry.proofs.BelowLemmas.{not-below}
 use Rattle.lg_carry.specs.Memory.Accesses.{LiesAbove}
 use Rattle.std.proofs.Common.{◌≡◌, ℕ, ◌+◌, ◌-◌, ◌%◌, ◌^◌, ◌<◌, ◌≤◌, Bool, true, false, List, [], ◌∷◌, Some, refl, sym, ap, ◌∙◌, arith, length, inr}
 use Rattle.std.specs.Prelude.{nat_lt, if◌then◌else◌, slice_get}
+use Rattle.std.proofs.lemmas.Bool.{false_from_ne_true}
 use Rattle.lg_base.specs.Conventions.{argument_registers, argument_word, stack_register}
 use Rattle.lg_base.specs.Layout.{frame_pointer, home_word, stack_argument}
 use Rattle.lg_base.specs.declared.target.Target.{Target}
@@ -21,7 +22,7 @@ use Rattle.lg_carry.specs.Rows.{Rows}
 use Rattle.lg_carry.specs.Spills.{in_slots}
 use Rattle.lg_carry.specs.Stands.{Stands, lowest}
 use Rattle.lg_carry.specs.TextNodes.{IsInText, IsFrameOf, stands_inside}
-use Rattle.lg_carry.proofs.AgreeInFrameLemmas.{settled, is-false}
+use Rattle.lg_carry.proofs.AgreeInFrameLemmas.{settled}
 use Rattle.lg_carry.proofs.KeptLemmas.{registers-few}
 use Rattle.lg_carry.proofs.StackLemmas.{stacked-high, few-arguments, within-where}
 use Rattle.lg_carry.proofs.TextShapeLemmas.{shaped}
@@ -41,13 +42,13 @@ pub record IsApart (sp a : ℕ) : Type 0 where
 home-apart : (sp k : ℕ) → k < 8 → sp % 16 ≡ 0 → 272 ≤ sp → IsApart sp (home_word (frame_pointer sp) k)
 home-apart sp k few even low = record {
   whole = omega (arith, few, even, low);
-  off = λ x le lt. is-false (in_slots (frame_pointer sp) x) (λ on. let z = within-where (frame_pointer sp - 128) 40 x on in omega (arith, z.0, z.1, le, lt, few, low));
+  off = λ x le lt. false_from_ne_true (in_slots (frame_pointer sp) x) (λ on. let z = within-where (frame_pointer sp - 128) 40 x on in omega (arith, z.0, z.1, le, lt, few, low));
 }
 
 stack-apart : (sp j : ℕ) → sp % 16 ≡ 0 → 272 ≤ sp → IsApart sp (stack_argument sp j)
 stack-apart sp j even low = record {
   whole = omega (arith, even);
-  off = λ x le lt. is-false (in_slots (frame_pointer sp) x) (λ on. let z = within-where (frame_pointer sp - 128) 40 x on in omega (arith, z.0, z.1, le, lt, low));
+  off = λ x le lt. false_from_ne_true (in_slots (frame_pointer sp) x) (λ on. let z = within-where (frame_pointer sp - 128) 40 x on in omega (arith, z.0, z.1, le, lt, low));
 }
 
 -- ---- an argument that a node reads

@@ -1,6 +1,7 @@
 -- Code behind code that only computes.
 use Rattle.std.proofs.Common.{◌≡◌, ℕ, ◌+◌, ◌-◌, ◌*◌, ◌≤◌, Bool, true, false, List, [], ◌∷◌, ◌++◌, Option, refl, ap, ◌∙◌, arith, length, length-append}
 use Rattle.std.specs.Prelude.{◌&&◌, is_some}
+use Rattle.std.proofs.lemmas.Bool.{and_parts}
 use Rattle.lg_base.specs.Runs.{Status}
 use Rattle.lg_base.specs.declared.flags.Flags.{Flags}
 use Rattle.lg_carry.specs.Blocks.{spellings, done, GoesThrough, IsAbove}
@@ -10,7 +11,7 @@ use Rattle.lg_carry.specs.Spills.{Does, in_slots, in_first_slots}
 use Rattle.lg_carry.proofs.StackLemmas.{within-where}
 use Rattle.lg_carry.specs.Nodes.Straight.{from_to}
 use Rattle.lg_carry.specs.Values.Computers.{Computer, IsComputer, all_compute, computed}
-use Rattle.lg_carry.proofs.OfValues.ComputationLemmas.{and-true, computations-do}
+use Rattle.lg_carry.proofs.OfValues.ComputationLemmas.{computations-do}
 
 done-append : {Q I : Type 0} (does : I → Q → Q) (xs ys : List I) (q : Q) → done does (xs ++ ys) q ≡ done does ys (done does xs q)
 done-append does [] ys q = refl
@@ -83,7 +84,7 @@ in-a-row R s V W B M E F xs ys fp n T most first second q looks room =
 pub all-compute-append : {I : Type 0} (computes : I → Bool) (xs ys : List I) → all_compute computes xs ≡ true → all_compute computes ys ≡ true → all_compute computes (xs ++ ys) ≡ true
 all-compute-append computes [] ys h k = k
 all-compute-append computes (x ∷ xs) ys h k =
-    let b = and-true (computes x) (all_compute computes xs) h in
+    let b = and_parts (computes x) (all_compute computes xs) h in
     ap (λ z. z && all_compute computes (xs ++ ys)) b.0 ∙ all-compute-append computes xs ys b.1 k
 
 -- what is seen behind code that only computes

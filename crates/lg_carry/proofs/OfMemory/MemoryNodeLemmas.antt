@@ -2,6 +2,7 @@
 use Rattle.std.proofs.Common.{◌≡◌, ◌≢◌, ℕ, ◌^◌, ◌<◌, ◌≤◌, Bool, true, false, List, [], ◌∷◌, Option, Some, refl, sym, ap, ◌∙◌, arith, subst, length}
 use Rattle.std.specs.Prelude.{◌||◌, slice_index_or}
 use Rattle.std.specs.List.{list_any}
+use Rattle.std.proofs.lemmas.Bool.{or_left}
 use Rattle.lg_base.specs.Words.{add_words}
 use Rattle.lg_op.specs.Forms.{admit, forms_of, address_forms, store_forms}
 use Rattle.lg_op.specs.declared.form.Form.TheVariants as form
@@ -49,7 +50,7 @@ use Rattle.lg_carry.specs.Memory.Operands.{named, number, is_label, names_label,
 use Rattle.lg_carry.specs.Memory.Stores.{StoreCode, StoreDoes, StoreCrosses, StoresDo, HasStoreCode, StoresCarry, StoresWithTemporariesCarry}
 use Rattle.lg_carry.proofs.OfMemory.FormLemmas.{nothing-left, starts-written, starts-read, starts-number}
 use Rattle.lg_carry.proofs.OfMemory.LoadLemmas.{load-computes}
-use Rattle.lg_carry.proofs.OfMemory.ReadLemmas.{sum, same-some, parts, or-true, or-first, or-false, numbered-same, numbered-none, number-small, with_op, stepped}
+use Rattle.lg_carry.proofs.OfMemory.ReadLemmas.{sum, same-some, parts, or-true, or-false, numbered-same, numbered-none, number-small, with_op, stepped}
 use Rattle.lg_carry.proofs.OfMemory.StoreLemmas.{store-carried}
 
 turned : (a b : ℕ) → add_words a b ≡ add_words b a
@@ -85,7 +86,7 @@ module _ {Q I : Type 0} (R : Rows Q I) (fits : I → Type 0) (scratch : ℕ → 
   by-register a words x lead =
       let n = node addressing.Register (operand.Reg a ∷ []) in
       load-computes R fits scratch c i n t d named (Base a) tt frame choices body lead some (λ s. reg s a)
-      (λ s q v h e. h.registers a v (λ ne. or-first (is_same a a) false (same-self a ne)) e)
+      (λ s q v h e. h.registers a v (λ ne. or_left (is_same a a) false (same-self a ne)) e)
       only-d (λ s at. stepped c i n s x at)
 
   by-number : (v : Operand) → number v < 2 ^ 64 → ((A : List ℕ) (s : State) → value A s v ≡ Some (number v)) → Computed addressing.Immediate (v ∷ [])
@@ -100,15 +101,15 @@ module _ {Q I : Type 0} (R : Rows Q I) (fits : I → Type 0) (scratch : ℕ → 
       let n = node addressing.RegisterRegister (operand.Reg a ∷ operand.Reg b ∷ []) in
       load-computes R fits scratch c i n t d named (Sum a b) tt frame choices body lead some (λ s. sum (reg s a) (reg s b))
       (λ s q v h e. held-sum (reg s a) (reg s b) v
-      (λ y ey. h.registers a y (λ ne. or-first (is_same b a || is_same a a) false (ap (λ z. is_same b a || z) (same-self a ne) ∙ or-true (is_same b a))) ey)
-      (λ y ey. h.registers b y (λ ne. or-first (is_same b b || is_same a b) false (or-first (is_same b b) (is_same a b) (same-self b ne))) ey) e)
+      (λ y ey. h.registers a y (λ ne. or_left (is_same b a || is_same a a) false (ap (λ z. is_same b a || z) (same-self a ne) ∙ or-true (is_same b a))) ey)
+      (λ y ey. h.registers b y (λ ne. or_left (is_same b b || is_same a b) false (or_left (is_same b b) (is_same a b) (same-self b ne))) ey) e)
       only-d (λ s at. stepped c i n s x at)
 
   by-index : (a : Reg) (v : Operand) → number v < 2 ^ 64 → ((A : List ℕ) (s : State) → value A s v ≡ Some (number v)) → Computed addressing.RegisterImmediate (operand.Reg a ∷ v ∷ [])
   by-index a v small gives words x lead =
       let n = node addressing.RegisterImmediate (operand.Reg a ∷ v ∷ []) in
       load-computes R fits scratch c i n t d named (Index a (number v)) small frame choices body lead some (λ s. sum (reg s a) (Some (number v)))
-      (λ s q b h e. held-index (reg s a) (number v) b (λ y ey. h.registers a y (λ ne. or-first (is_same a a) false (same-self a ne)) ey) e)
+      (λ s q b h e. held-index (reg s a) (number v) b (λ y ey. h.registers a y (λ ne. or_left (is_same a a) false (same-self a ne)) ey) e)
       only-d (λ s at. stepped c i n s x at ∙ ap (λ z. need (sum (reg s a) z) (λ y. load_to s t y (operand.Reg d))) (gives c.addresses s))
 
   load-law : (at : Addressing) (xs : List Operand) → admit (address_forms at) xs ≡ true → list_any is_label xs ≡ false → Computed at xs
@@ -149,7 +150,7 @@ module _ {Q I : Type 0} (R : Rows Q I) (scratch : ℕ → Bool) (fits : I → Ty
       let n = store addressing.Register (operand.Reg a ∷ operand.Reg b ∷ []) in
       store-carried R scratch fits isa c i n t S b (Base a) tt frame choices body lead some harm (λ s. reg s a) (λ s. reg s b) refl refl
       (λ s q v h e. h.registers a v (λ ne. ap (λ z. is_same b a || z) (same-self a ne) ∙ or-true (is_same b a)) e)
-      (λ s q v h e. h.registers b v (λ ne. or-first (is_same b b) (is_same a b) (same-self b ne)) e)
+      (λ s q v h e. h.registers b v (λ ne. or_left (is_same b b) (is_same a b) (same-self b ne)) e)
       numbered-none (λ s at. stepped c i n s x at) x is-frame k
 
   at-number : (v : Operand) (b : Reg) → number v < 2 ^ 64 → ((A : List ℕ) (s : State) → value A s v ≡ Some (number v)) → Stores addressing.Immediate (v ∷ operand.Reg b ∷ [])
@@ -157,7 +158,7 @@ module _ {Q I : Type 0} (R : Rows Q I) (scratch : ℕ → Bool) (fits : I → Ty
       let n = store addressing.Immediate (v ∷ operand.Reg b ∷ []) in
       store-carried R scratch fits isa c i n t S b (At (number v)) small frame choices body lead some harm (λ s. Some (number v)) (λ s. reg s b) refl refl
       (λ s q a h e. same-some (number v) a e)
-      (λ s q y h e. h.registers b y (λ ne. or-first (is_same b b) false (same-self b ne)) e)
+      (λ s q y h e. h.registers b y (λ ne. or_left (is_same b b) false (same-self b ne)) e)
       numbered-none (λ s at. stepped c i n s x at ∙ ap (λ z. need z (λ y. need (reg s b) (λ u. store_to s t y u))) (gives c.addresses s)) x is-frame k
 
   at-registers : (a b d : Reg) → Stores addressing.RegisterRegister (operand.Reg a ∷ operand.Reg b ∷ operand.Reg d ∷ [])
@@ -166,8 +167,8 @@ module _ {Q I : Type 0} (R : Rows Q I) (scratch : ℕ → Bool) (fits : I → Ty
       store-carried R scratch fits isa c i n t S d (Sum a b) tt frame choices body lead some harm (λ s. sum (reg s a) (reg s b)) (λ s. reg s d) refl refl
       (λ s q v h e. held-sum (reg s a) (reg s b) v
       (λ y ey. h.registers a y (λ ne. ap (λ z. (is_same d a || is_same b a) || z) (same-self a ne) ∙ or-true (is_same d a || is_same b a)) ey)
-      (λ y ey. h.registers b y (λ ne. or-first (is_same d b || is_same b b) (is_same a b) (ap (λ z. is_same d b || z) (same-self b ne) ∙ or-true (is_same d b))) ey) e)
-      (λ s q v h e. h.registers d v (λ ne. or-first (is_same d d || is_same b d) (is_same a d) (or-first (is_same d d) (is_same b d) (same-self d ne))) e)
+      (λ y ey. h.registers b y (λ ne. or_left (is_same d b || is_same b b) (is_same a b) (ap (λ z. is_same d b || z) (same-self b ne) ∙ or-true (is_same d b))) ey) e)
+      (λ s q v h e. h.registers d v (λ ne. or_left (is_same d d || is_same b d) (is_same a d) (or_left (is_same d d) (is_same b d) (same-self d ne))) e)
       numbered-none (λ s at. stepped c i n s x at) x is-frame k
 
   at-index : (v : Operand) (b d : Reg) → ((r : Reg) → v ≢ operand.Reg r) → number v < 2 ^ 64 → ((A : List ℕ) (s : State) → value A s v ≡ Some (number v))
@@ -176,8 +177,8 @@ module _ {Q I : Type 0} (R : Rows Q I) (scratch : ℕ → Bool) (fits : I → Ty
       let n = store addressing.RegisterImmediate (v ∷ operand.Reg b ∷ operand.Reg d ∷ []) in
       store-carried R scratch fits isa c i n t S d (Index b (number v)) small frame choices body (subst (λ a. StoreCrosses R fits scratch choices frame t a d body) (address-is v b plain) lead) some harm (λ s. sum (Some (number v)) (reg s b)) (λ s. reg s d) refl refl
       (λ s q a h e. held-offset (reg s b) (number v) a
-      (λ y ey. h.registers b y (λ ne. or-first (is_same d b || is_same b b) false (ap (λ z. is_same d b || z) (same-self b ne) ∙ or-true (is_same d b))) ey) e)
-      (λ s q y h e. h.registers d y (λ ne. or-first (is_same d d || is_same b d) false (or-first (is_same d d) (is_same b d) (same-self d ne))) e)
+      (λ y ey. h.registers b y (λ ne. or_left (is_same d b || is_same b b) false (ap (λ z. is_same d b || z) (same-self b ne) ∙ or-true (is_same d b))) ey) e)
+      (λ s q y h e. h.registers d y (λ ne. or_left (is_same d d || is_same b d) false (or_left (is_same d d) (is_same b d) (same-self d ne))) e)
       numbered-none (λ s at. stepped c i n s x at ∙ ap (λ z. need (sum z (reg s b)) (λ y. need (reg s d) (λ u. store_to s t y u))) (gives c.addresses s)) x is-frame k
     where
       address-is : (v : Operand) (b : Reg) → ((r : Reg) → v ≢ operand.Reg r) → address_of addressing.RegisterImmediate v (operand.Reg b) ≡ Index b (number v)

@@ -1,7 +1,7 @@
 -- A node that passes an argument of a call is carried.
 use Rattle.std.proofs.Common.{◌≡◌, ◌≢◌, ℕ, zero, suc, ◌+◌, ◌-◌, ◌*◌, ◌^◌, ◌<◌, ◌≤◌, ◌⊎◌, inl, inr, Bool, true, false, List, [], ◌∷◌, ◌++◌, Option, Some, None, refl, sym, ap, ◌∙◌, subst, arith, length, ⊎_elim}
 use Rattle.std.specs.Prelude.{◌==◌, ◌||◌, if◌then◌else◌, is_some, slice_get, slice_index}
-use Rattle.std.proofs.lemmas.Bool.{cases_lt}
+use Rattle.std.proofs.lemmas.Bool.{cases_lt, false_from_ne_true, or_parts}
 use Rattle.lg_base.specs.Conventions.{argument_registers, argument_word, frame_register, stack_register, portable_register}
 use Rattle.lg_base.specs.HostNames.{host_address}
 use Rattle.lg_base.specs.Layout.{code_base, most_code, frame_pointer, stack_argument}
@@ -46,7 +46,7 @@ use Rattle.lg_carry.specs.Spills.{Does, in_slots, spilled, with_register}
 use Rattle.lg_carry.specs.Stands.{StatesAgree, Stands, lowest}
 use Rattle.lg_carry.specs.TemporariesApart.{IsSpare}
 use Rattle.lg_carry.specs.TextNodes.{IsInText, IsFrameOf, NamesCode}
-use Rattle.lg_carry.proofs.AgreeInFrameLemmas.{settled, is-false, push-agrees}
+use Rattle.lg_carry.proofs.AgreeInFrameLemmas.{settled, push-agrees}
 use Rattle.lg_carry.proofs.KeptLemmas.{registers-some}
 use Rattle.lg_carry.proofs.RegistersApartLemmas.{conventions-apart}
 use Rattle.lg_carry.proofs.StackLemmas.{stacked-high, within-where}
@@ -55,7 +55,6 @@ use Rattle.lg_carry.specs.Nodes.Isas.{IsIsa}
 use Rattle.lg_carry.specs.Nodes.Straight.{is_taken, spoils, from_to, HoldsRead}
 use Rattle.lg_carry.proofs.OfNodes.RegisterLemmas.{same-self}
 use Rattle.lg_carry.proofs.OfNodes.StraightLemmas.{AreHarmless, none-harmless, inside, tower, is-fp, room, read-before, still, stays, leads, kept-portable, kept-argument, bytes-off}
-use Rattle.lg_carry.proofs.OfNodes.TemporaryLemmas.{either}
 use Rattle.lg_carry.specs.Memory.Operands.{HasWords, operand_word}
 use Rattle.lg_carry.specs.Memory.Pushes.{PushCode, is_in_register, outgoing_word, IsPassed, PushesDo, HasPushCode, PushesCarry}
 use Rattle.lg_carry.specs.Memory.Stores.{IsWritable}
@@ -101,7 +100,7 @@ outgoing-is : (low size sp j : ℕ) → low + size ≡ sp → 272 ≤ size → 0
 outgoing-is low size sp j sum large deep high few = record {
   inside_words = λ y away. words y away (cases_lt y (low + 8 * j)) (cases_lt y (low + 8 * j + 8));
   in_stack = λ y le lt. grind (arith, sum, large, deep, high, few, le, lt);
-  off = λ y le lt. is-false (in_slots (frame_pointer sp) y) (λ on. let z = within-where (frame_pointer sp - 128) 40 y on in omega (arith, z.0, z.1, sum, large, few, le, lt));
+  off = λ y le lt. false_from_ne_true (in_slots (frame_pointer sp) y) (λ on. let z = within-where (frame_pointer sp - 128) 40 y on in omega (arith, z.0, z.1, sum, large, few, le, lt));
 }
   where
     words : (y : ℕ) → within low 80 y ≡ false → (y < low + 8 * j) ⊎ (low + 8 * j ≤ y) → (y < low + 8 * j + 8) ⊎ (low + 8 * j + 8 ≤ y) → (y < low + 8 * j) ⊎ (low + 8 * j + 8 ≤ y)
@@ -207,7 +206,7 @@ module _ {Q I : Type 0} (R : Rows Q I) (scratch : ℕ → Bool) (fits : I → Ty
       is-rd y e = let z = or-false (rd == y) e in grind (arith, z)
 
       not-rd : (y : ℕ) → rd ≢ y → is_taken taken y ≡ false
-      not-rd y ne = is-false (is_taken taken y) (λ e. ne (is-rd y e))
+      not-rd y ne = false_from_ne_true (is_taken taken y) (λ e. ne (is-rd y e))
 
       h : AreHarmless R c i n S taken
       h =
@@ -255,7 +254,7 @@ module _ {Q I : Type 0} (R : Rows Q I) (scratch : ℕ → Bool) (fits : I → Ty
               through = l.through;
               runs = l.runs;
               behind = l.behind;
-              registers = λ r free. let z = either (is_taken taken r) (scratch r) free in l.registers r (ap (λ b. false || b) z.1) ∙ with-other w rd v r (λ e. clash z.0 (taken-self r e));
+              registers = λ r free. let z = or_parts (is_taken taken r) (scratch r) free in l.registers r (ap (λ b. false || b) z.1) ∙ with-other w rd v r (λ e. clash z.0 (taken-self r e));
               bytes = l.bytes;
               slots = l.slots;
               has_mark = l.has_mark;
@@ -274,7 +273,7 @@ module _ {Q I : Type 0} (R : Rows Q I) (scratch : ℕ → Bool) (fits : I → Ty
             let l = does-so q
             record { runs = st.runs; has_registers = λ r. refl; has_bytes = λ p off. refl; has_slots = λ p on. st.state.seen.stack p (in-stack fp p z.low z.high on); has_mark = refl; has_flags = refl }
             (room R scratch fits isa c i n S taken is refl refl t k long h frames s q at st.runs st.state) in
-            l.registers rd (ap (λ b. false || b) (is-false (scratch rd) (λ e. (isa.apart rd e).argument j low refl))) ∙ with-same w rd v
+            l.registers rd (ap (λ b. false || b) (false_from_ne_true (scratch rd) (λ e. (isa.apart rd e).argument j low refl))) ∙ with-same w rd v
           where
             in-stack : (f y : ℕ) → stack_base + 256 ≤ f → f + 16 ≤ 0x40000000 → in_slots f y ≡ true → within stack_base 0x100000 y ≡ true
             in-stack f y low high on = grind (arith, low, high, on)
@@ -306,7 +305,7 @@ module _ {Q I : Type 0} (R : Rows Q I) (scratch : ℕ → Bool) (fits : I → Ty
         agree : StatesAgree target c frames (to s v) (R.processor.seen u) S
         agree = push-agrees target c frames s (to s v) (R.processor.seen q) (R.processor.seen u) (live_before n S) S st.state
             (stays R scratch fits isa c i n S taken is refl refl t k long h frames s q at st.runs st.state w bytes (R.processor.seen q).flags does (λ y z. refl) (to s v) (goes-so s v at given) refl refl refl refl)
-            record { mem = refl; data_size = refl; args_size = refl; bytes = λ y off away. left y (either (in_slots fp y) (within (lowest s.frame - 8) 8 y) off).0; outgoing = outgoing }
+            record { mem = refl; data_size = refl; args_size = refl; bytes = λ y off away. left y (or_parts (in_slots fp y) (within (lowest s.frame - 8) 8 y) off).0; outgoing = outgoing }
             record {
               registers = record {
                 is = λ r y lt alive e. kept-portable R scratch fits isa c i n S taken is refl refl t k long h frames s q at st.runs st.state w bytes (R.processor.seen q).flags does (λ y z. refl) r lt alive (g.writes r)
@@ -413,7 +412,7 @@ module _ {Q I : Type 0} (R : Rows Q I) (scratch : ℕ → Bool) (fits : I → Ty
               mem = refl;
               data_size = refl;
               args_size = refl;
-              bytes = λ y off away. leaves-bytes y (either (in_slots end_fp y) (within (lowest s.frame - 8) 8 y) off).0 ∙ stored-out m a 8 v y (word-at.inside_words y away);
+              bytes = λ y off away. leaves-bytes y (or_parts (in_slots end_fp y) (within (lowest s.frame - 8) 8 y) off).0 ∙ stored-out m a 8 v y (word-at.inside_words y away);
               outgoing = goes-out;
             }
             record {

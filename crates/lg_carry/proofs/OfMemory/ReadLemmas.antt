@@ -39,9 +39,6 @@ pub or-true : (b : Bool) → (b || true) ≡ true
 or-true true = refl
 or-true false = refl
 
-pub or-first : (b c : Bool) → b ≡ true → (b || c) ≡ true
-or-first b c e = ap (λ z. z || c) e
-
 pub or-false : (b : Bool) → (b || false) ≡ b
 or-false true = refl
 or-false false = refl

@@ -1,7 +1,7 @@
 -- Stores are carried by code that stores the register.
 use Rattle.std.proofs.Common.{◌≡◌, ℕ, ◌+◌, ◌-◌, ◌^◌, ◌<◌, ◌≤◌, ◌⊎◌, inl, inr, Bool, true, false, List, [], Option, Some, None, refl, sym, ap, ◌∙◌, subst, arith, length}
 use Rattle.std.specs.Prelude.{is_some, if◌then◌else◌}
-use Rattle.std.proofs.lemmas.Bool.{cases_lt}
+use Rattle.std.proofs.lemmas.Bool.{cases_lt, false_from_ne_true, or_parts}
 use Rattle.std.proofs.lemmas.Option.{slice_get_within}
 use Rattle.lg_base.specs.Conventions.{frame_register, stack_register}
 use Rattle.lg_base.specs.Layout.{frame_pointer}
@@ -33,7 +33,7 @@ use Rattle.lg_carry.specs.Registers.{HoldsCarry}
 use Rattle.lg_carry.specs.Rows.{Rows}
 use Rattle.lg_carry.specs.Spills.{in_slots, wrapped, spilled}
 use Rattle.lg_carry.specs.Stands.{StatesAgree, Stands, lowest}
-use Rattle.lg_carry.proofs.AgreeInFrameLemmas.{is-false, store-agrees}
+use Rattle.lg_carry.proofs.AgreeInFrameLemmas.{store-agrees}
 use Rattle.lg_carry.proofs.SpillLemmas.{stored-there}
 use Rattle.lg_carry.proofs.StackLemmas.{within-where}
 use Rattle.lg_carry.specs.Memory.Accesses.{Address, address_word, IsAddress, LiesAbove}
@@ -44,7 +44,6 @@ use Rattle.lg_carry.specs.Memory.Stores.{IsWritable, IsOffSlots, StoreCrosses}
 use Rattle.lg_carry.specs.Nodes.Straight.{IsKept, spoils, from_to, HoldsRead}
 use Rattle.lg_carry.proofs.OfNodes.ByteLemmas.{stored-holds, stored-same}
 use Rattle.lg_carry.proofs.OfNodes.OpenLemmas.{open-there}
-use Rattle.lg_carry.proofs.OfNodes.TemporaryLemmas.{either}
 use Rattle.lg_carry.proofs.OfNodes.StraightLemmas.{AreHarmless, carry-moved}
 use Rattle.lg_carry.proofs.OfMemory.PassedNodeLemmas.{u, still, tower, is-fp, open-off, open-below, open-above, read-before, stays, leads, kept-portable, kept-argument, carry-end, bytes-off, flag-is}
 
@@ -123,11 +122,11 @@ module _ {Q I : Type 0} (R : Rows Q I) (scratch : ℕ → Bool) (fits : I → Ty
     left = bytes-off R scratch fits isa c i n S choices body inside_op falls x k some h frames s q here st.runs st.state w bytes (R.processor.seen q).flags does keeps
 
     low-off : (y : ℕ) → y < 0x30000000 → in_slots fp y ≡ false
-    low-off y lt = is-false (in_slots fp y) (λ on. let z = within-where (fp - 128) 40 y on in let p = (is-fp R scratch fits isa c i n S choices body inside_op falls x k some h frames s q here st.runs st.state).low in omega (arith, z.0, z.1, p, lt))
+    low-off y lt = false_from_ne_true (in_slots fp y) (λ on. let z = within-where (fp - 128) 40 y on in let p = (is-fp R scratch fits isa c i n S choices body inside_op falls x k some h frames s q here st.runs st.state).low in omega (arith, z.0, z.1, p, lt))
 
     written : Writes s to (R.processor.seen q) (R.processor.seen here-u)
     written = record {
-      bytes = λ y spoilt. by y (either (in_slots fp y) (within (lowest s.frame - 8) 8 y) spoilt).0 (cases_lt y a) (cases_lt y (a + store_width t));
+      bytes = λ y spoilt. by y (or_parts (in_slots fp y) (within (lowest s.frame - 8) 8 y) spoilt).0 (cases_lt y a) (cases_lt y (a + store_width t));
       parts = record {
         data_small = st.state.parts.data_small;
         args_small = st.state.parts.args_small;

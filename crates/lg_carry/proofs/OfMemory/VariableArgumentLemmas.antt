@@ -2,6 +2,7 @@
 use Rattle.std.proofs.Common.{◌≡◌, ◌≢◌, ℕ, ◌+◌, ◌%◌, ◌<◌, ◌⊎◌, inl, Bool, true, false, List, [], ◌∷◌, Option, Some, None, refl, sym, ap, ◌∙◌, arith, subst}
 use Rattle.std.specs.Prelude.{◌==◌, ◌||◌, slice_get}
 use Rattle.std.proofs.lemmas.Option.{slice_get_within}
+use Rattle.std.proofs.lemmas.Bool.{or_left}
 use Rattle.lg_base.specs.Layout.{frame_pointer}
 use Rattle.lg_base.specs.declared.target.Target.{Target}
 use Rattle.lg_op.specs.Forms.{admit, forms_of}
@@ -41,7 +42,7 @@ use Rattle.lg_carry.specs.Memory.VariableArguments.{NextArgumentCode, LeavesBoth
 use Rattle.lg_carry.proofs.OfMemory.ArgumentPlaceLemmas as place
 use Rattle.lg_carry.proofs.OfMemory.ArgumentPlaceLemmas.{reads-held, same-end, stands-there, argument-small, args-few, place-above}
 use Rattle.lg_carry.proofs.OfMemory.FormLemmas.{nothing-left, starts-written, starts-updated}
-use Rattle.lg_carry.proofs.OfMemory.ReadLemmas.{or-first, or-false, with_op, stepped}
+use Rattle.lg_carry.proofs.OfMemory.ReadLemmas.{or-false, with_op, stepped}
 use Rattle.lg_carry.proofs.OfMemory.WriteLemmas.{with-same, with-other}
 
 whole : (a : ℕ) → a % 8 ≡ 0 → (a % 8 == 0) ≡ true
@@ -80,7 +81,7 @@ module _ {Q I : Type 0} (R : Rows Q I) (scratch : ℕ → Bool) (fits : I → Ty
       reads = reads-held R scratch fits isa c i n refl refl frame is-frame S (code d e) (some d e) x y frames s out q at st
 
       number-there : (k : ℕ) → reg s e ≡ Some k → w (register_of target e) ≡ k
-      number-there k held = reads.registers e k (λ z. or-first (is_same e e) false (same-self e z)) held
+      number-there k held = reads.registers e k (λ z. or_left (is_same e e) false (same-self e z)) held
 
       module _ (k v : ℕ) (held : reg s e ≡ Some k) (given : slice_get s.frame.args k ≡ Some v) where
         abbrev a : ℕ

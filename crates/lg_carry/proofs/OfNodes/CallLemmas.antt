@@ -1,6 +1,7 @@
 -- Calls of labels are carried by code that arrives at the place of the function.
 use Rattle.std.proofs.Common.{◌≡◌, ℕ, zero, suc, ◌+◌, ◌-◌, ◌<◌, ◌≤◌, ◌⊎◌, inl, inr, Bool, true, false, List, [], ◌∷◌, ◌++◌, Some, refl, sym, ap, ◌∙◌, subst, arith, length, append-nil}
 use Rattle.std.specs.Prelude.{nat_le, slice_get, slice_index, if◌then◌else◌}
+use Rattle.std.proofs.lemmas.Bool.{false_from_ne_true}
 use Rattle.lg_base.specs.Conventions.{link_register}
 use Rattle.lg_base.specs.declared.target.Target.{Target}
 use Rattle.lg_op.specs.declared.op.Op.{Op}
@@ -34,7 +35,7 @@ use Rattle.lg_carry.specs.NodeCode.{numbered, live_before, live_behind, is_retur
 use Rattle.lg_carry.specs.Passages.{IsNodeCode}
 use Rattle.lg_carry.specs.Rows.{Rows}
 use Rattle.lg_carry.proofs.AgreeAcrossFramesLemmas.{call-agrees}
-use Rattle.lg_carry.proofs.AgreeInFrameLemmas.{settled, is-false}
+use Rattle.lg_carry.proofs.AgreeInFrameLemmas.{settled}
 use Rattle.lg_carry.proofs.KeptLemmas.{stack_arguments-kept}
 use Rattle.lg_carry.proofs.PassageLemmas.{passages-lead}
 use Rattle.lg_carry.proofs.TurnLemmas.{call-moves, sinking-turns}
@@ -56,7 +57,7 @@ stays-frame o e = cc
 
 -- an address at or above the stack pointer is none of the word below it
 pub above-off : (low a : ℕ) → 8 ≤ low → low ≤ a → within (low - 8) 8 a ≡ false
-above-off low a eight le = is-false (within (low - 8) 8 a) (λ e. let w = within-where (low - 8) 8 a e in omega (arith, w.1, le, eight))
+above-off low a eight le = false_from_ne_true (within (low - 8) 8 a) (λ e. let w = within-where (low - 8) 8 a e in omega (arith, w.1, le, eight))
 
 -- ---- where a call stands
 module _ {Q I : Type 0} (R : Rows Q I) (c : Code) (i : ℕ) (n : Node) (S : ℕ → Bool) (inside : is_inside c i ≡ true) (live : Frame → ℕ → Bool) (s : State) (out : List ℕ) (q : Q) (at : s.at ≡ i) (st : Stands R.processor c live s out q (live_before n S)) where
@@ -75,7 +76,7 @@ module _ {Q I : Type 0} (R : Rows Q I) (c : Code) (i : ℕ) (n : Node) (S : ℕ 
 -- ---- into a function
 module _ {Q I : Type 0} (R : Rows Q I) (c : Code) (i : ℕ) (n : Node) (S : ℕ → Bool) (t : IsInText c i n) (inside : is_inside c i ≡ true) (calls : is_call n.op ≡ true)
     (unwritten : (v : ℕ) → v < 3 → numbered (is_written n) (v + 3) ≡ false)
-    (live : Frame → ℕ → Bool) (s : State) (returns : ReturnsTo live n S s) (out : List ℕ) (q : Q) (at : s.at ≡ i) (st : Stands R.processor c live s out q (live_before n S))
+    (live : Frame → ℕ → Bool) (s : State) (returns : ReturnsTo c live n S s) (out : List ℕ) (q : Q) (at : s.at ≡ i) (st : Stands R.processor c live s out q (live_before n S))
     (args : List ℕ) (few-args : length args ≤ 16) (held : HoldsArguments R.processor.target (R.processor.seen q).registers args) (stacked : HasArguments R.processor.target (R.processor.seen q).bytes (lowest s.frame) args) where
   abbrev target : Target
   target = R.processor.target
@@ -103,7 +104,7 @@ module _ {Q I : Type 0} (R : Rows Q I) (c : Code) (i : ℕ) (n : Node) (S : ℕ 
           record {
             before = before R c i n S inside live s out q at st;
             homes = ap (λ j. homes_at c (j + 1)) at ∙ next-homes c i n t inside (call-no-epilog n.op calls) ∙ sym (ap (homes_at c) at);
-            needed = λ v lt l. still-live n S (v + 3) (unwritten v lt) (sym (returns args calls (v + 3)) ∙ l);
+            needed = λ v lt l. still-live n S (v + 3) (unwritten v lt) (sym (returns.new args calls (v + 3)) ∙ l);
             kept = arr.kept;
             pointer = arr.frame;
             stack = arr.pointer;
@@ -128,7 +129,7 @@ module _ {Q I : Type 0} (R : Rows Q I) (c : Code) (i : ℕ) (n : Node) (S : ℕ 
 -- ---- by its label
 module _ {Q I : Type 0} (R : Rows Q I) (fits : I → Type 0) (code : ℕ → ℕ → List I) (lead : CallsLead R fits code) (c : Code) (i : ℕ) (n : Node) (l : Label) (S : ℕ → Bool) (w : HasPlaces R c) (t : IsInText c i n) (size : ℕ) (is-frame : IsFrameOf c i size)
     (k : IsNodeCode R fits c i (code (c.place i) (slice_index c.addresses l.0))) (inside : is_inside c i ≡ true) (calls : is_call n.op ≡ true) (unwritten : (v : ℕ) → v < 3 → numbered (is_written n) (v + 3) ≡ false) (target-is : IsEntry c.nodes (place_of c.nodes.places l))
-    (live : Frame → ℕ → Bool) (s : State) (returns : ReturnsTo live n S s) (out : List ℕ) (q : Q) (at : s.at ≡ i) (st : Stands R.processor c live s out q (live_before n S))
+    (live : Frame → ℕ → Bool) (s : State) (returns : ReturnsTo c live n S s) (out : List ℕ) (q : Q) (at : s.at ≡ i) (st : Stands R.processor c live s out q (live_before n S))
     (args : List ℕ) (few-args : length args ≤ 16) (held : HoldsArguments R.processor.target (R.processor.seen q).registers args) (stacked : HasArguments R.processor.target (R.processor.seen q).bytes (lowest s.frame) args) where
   bound : slice_index c.addresses l.0 ≡ c.place target-is.node
   bound = w.nodes.bound l.0 target-is.node (bound-at c.nodes.places l (place.Node target-is.node) target-is.place)

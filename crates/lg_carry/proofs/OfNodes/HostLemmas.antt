@@ -9,6 +9,7 @@ use Rattle.lg_base.specs.declared.host_name.HostName.TheVariants as host
 use Rattle.lg_base.specs.declared.target.Target.{Target}
 use Rattle.lg_base.specs.declared.target.Target.TheVariants.{X86_64, Aarch64, Riscv64}
 use Rattle.std.proofs.lemmas.Option.{slice_get_within}
+use Rattle.std.proofs.lemmas.Bool.{false_from_ne_true, or_parts}
 use Rattle.lg_cells.specs.Cells.{within}
 use Rattle.lg_host.specs.Blocks.{Changes, over}
 use Rattle.lg_host.specs.Host.{Mem, Host, Gives, Exits, Undefined, memory, host_of}
@@ -39,7 +40,7 @@ use Rattle.lg_carry.specs.Carries.{calls_at, moves_at, Meets, Leads}
 use Rattle.lg_carry.specs.Outside.{calls_move}
 use Rattle.lg_carry.specs.NodeCode.{numbered, live_before, live_behind}
 use Rattle.lg_carry.specs.Passages.{IsNodeCode}
-use Rattle.lg_carry.proofs.AgreeInFrameLemmas.{host-agrees, is-false}
+use Rattle.lg_carry.proofs.AgreeInFrameLemmas.{host-agrees}
 use Rattle.lg_carry.proofs.RegistersApartLemmas.{conventions-apart}
 use Rattle.lg_carry.proofs.KeptLemmas.{stack_arguments-kept}
 use Rattle.lg_carry.proofs.PassageLemmas.{host-steps-lead}
@@ -55,7 +56,6 @@ use Rattle.lg_carry.proofs.OfNodes.LeapLemmas.{in-some, behind-prolog, next-insi
 use Rattle.lg_carry.proofs.OfNodes.LiveLemmas.{still-live}
 use Rattle.lg_carry.proofs.OfNodes.OpenLemmas.{open-there}
 use Rattle.lg_carry.proofs.OfNodes.StraightLemmas.{text-keeps}
-use Rattle.lg_carry.proofs.OfNodes.TemporaryLemmas.{either}
 
 -- ---- changed bytes
 changed : (d : Changes) (m : ℕ → Option ℕ) (a : ℕ) → (over d m a ≡ m a) ⊎ ((b : ℕ) × (d a ≡ Some b))
@@ -168,7 +168,7 @@ module _ {Q I : Type 0} (R : Rows Q I) (ready : HostName → (ℕ → ℕ) → B
 
   -- memory below the stack and memory that is open is that before the call
   below-same : (a : ℕ) → a < 0x3FF00000 → B a ≡ (R.processor.seen q).bytes a
-  below-same a lt = arr.bytes a (is-false (within (low - 8) 8 a) (λ e. let z = within-where (low - 8) 8 a e in let l = st.state.low in omega (arith, z.0, lt, l)))
+  below-same a lt = arr.bytes a (false_from_ne_true (within (low - 8) 8 a) (λ e. let z = within-where (low - 8) 8 a e in let l = st.state.low in omega (arith, z.0, lt, l)))
 
   open-same : (a : ℕ) → is_open s a ≡ true → B a ≡ (R.processor.seen q).bytes a
   open-same a can = ⊎_elim
@@ -287,7 +287,7 @@ module _ {Q I : Type 0} (R : Rows Q I) (ready : HostName → (ℕ → ℕ) → B
           mark = ans.mark;
         }
         record {
-          bytes = λ a e. where-may a (either (in_slots (frame_pointer s.frame.sp) a) (within (low - 8) 8 a) e).1;
+          bytes = λ a e. where-may a (or_parts (in_slots (frame_pointer s.frame.sp) a) (within (low - 8) 8 a) e).1;
           parts = record {
             data_small = st.state.parts.data_small;
             args_small = st.state.parts.args_small;

@@ -5,6 +5,7 @@ use Rattle.std.specs.Option.{option_flatten}
 use Rattle.std.specs.List.{All}
 use Rattle.std.proofs.lemmas.List.Elements.{All-head, All-tail}
 use Rattle.std.proofs.lemmas.Option.{slice_get_within}
+use Rattle.std.proofs.lemmas.Bool.{false_from_ne_true}
 use Rattle.lg_base.specs.Conventions.{argument_registers, portable_register, frame_register, stack_register}
 use Rattle.lg_base.specs.declared.target.Target.{Target}
 use Rattle.lg_op.specs.declared.operand.Label.{Label}
@@ -32,7 +33,7 @@ use Rattle.lg_carry.specs.Registers.{HoldsRegisters, HoldsArguments}
 use Rattle.lg_carry.specs.Rows.{Rows, AreRows}
 use Rattle.lg_carry.specs.Blocks.{spellings, StaysOutside}
 use Rattle.lg_base.specs.Runs.{iter}
-use Rattle.lg_carry.proofs.AgreeInFrameLemmas.{quiet-agrees, is-false}
+use Rattle.lg_carry.proofs.AgreeInFrameLemmas.{quiet-agrees}
 use Rattle.lg_carry.proofs.RegistersApartLemmas.{conventions-apart}
 use Rattle.lg_carry.proofs.PassageLemmas.{passages-lead}
 use Rattle.lg_carry.proofs.TextShapeLemmas.{shaped}
@@ -140,7 +141,7 @@ module _ {Q I : Type 0} (R : Rows Q I) (scratch : ℕ → Bool) (fits : I → Ty
   target = R.processor.target
 
   scratch-off : (x : ℕ) → (scratch x ≡ true → ⊥) → scratch x ≡ false
-  scratch-off x h = is-false (scratch x) h
+  scratch-off x h = false_from_ne_true (scratch x) h
 
   -- the node goes to another one, where the registers are these
   pub way-leads : (S S' : ℕ → Bool) → IsStill target n.op → is_inside c i ≡ true → (live : Frame → ℕ → Bool) (s : State) (out : List ℕ) (q : Q) → s.at ≡ i → Stands R.processor c live s out q S

@@ -5,6 +5,7 @@ use Rattle.std.proofs.Common.{◌≡◌, ◌≢◌, ℕ, ◌+◌, ◌-◌, ◌%�
 use Rattle.std.specs.Prelude.{◌||◌, ◌&&◌, not, slice_get, slice_index, slice_index_or, if◌then◌else◌}
 use Rattle.std.proofs.lemmas.List.{length-drop}
 use Rattle.std.proofs.lemmas.Option.{slice_get_within}
+use Rattle.std.proofs.lemmas.Bool.{false_from_ne_true, cases_Bool, or_parts, or_cases}
 use Rattle.lg_base.specs.Conventions.{argument_registers, portable_register, frame_register, stack_register, carry_register}
 use Rattle.lg_base.specs.Layout.{code_base, most_code, frame_pointer, stack_end}
 use Rattle.lg_base.specs.Parts.{stack_base, heap_base}
@@ -55,14 +56,14 @@ use Rattle.lg_carry.specs.Blocks.{spellings, done, RunsBlock}
 use Rattle.lg_carry.specs.Spills.{IsFramePointer, in_slots, in_first_slots, HasRoom, Leaves, Does, wrapped, spilled, AreInOrder, lost}
 use Rattle.lg_carry.specs.TemporariesApart.{IsSpare}
 use Rattle.lg_carry.specs.Frames.{at_call}
-use Rattle.lg_carry.proofs.AgreeInFrameLemmas.{settled, quiet-agrees, is-false}
+use Rattle.lg_carry.proofs.AgreeInFrameLemmas.{settled, quiet-agrees}
 use Rattle.lg_carry.proofs.RegistersApartLemmas.{conventions-apart}
 use Rattle.lg_carry.proofs.BlockLemmas.{blocks-run}
 use Rattle.lg_carry.proofs.NodeBlockLemmas.{node-blocks-lead}
 use Rattle.lg_carry.proofs.TextShapeLemmas.{inner, shaped}
 use Rattle.lg_carry.proofs.SpillLemmas.{saves-restore}
 use Rattle.lg_carry.proofs.SpillChoiceLemmas.{choices-in-order}
-use Rattle.lg_carry.proofs.StackLemmas.{stacked-running, stacked-high, slot-where, open-where, locals-off, within-where, or-cases, locals-above}
+use Rattle.lg_carry.proofs.StackLemmas.{stacked-running, stacked-high, slot-where, open-where, locals-off, within-where, locals-above}
 use Rattle.lg_carry.proofs.TemporariesApartLemmas.{none-stood-for, none-staged, tried-spare}
 use Rattle.lg_carry.specs.Nodes.Isas.{IsIsa}
 use Rattle.lg_carry.specs.TextNodes.{IsInText, IsFrameOf, IsBehindProlog, stands_inside}
@@ -71,14 +72,10 @@ use Rattle.lg_node.specs.Labels.{is_inner}
 use Rattle.lg_carry.specs.Nodes.Straight.{is_taken, spoils, HoldsRead, IsKept, from_to, StepsTo, ComputesNode, NeedWell, ComputingNodesCarry, PlainNodesCarry}
 use Rattle.lg_carry.proofs.PlaceLemmas.{nodes-stand-inside}
 use Rattle.lg_carry.proofs.OfNodes.RegisterLemmas.{stands-for, number-few, numbered-at, given}
-use Rattle.lg_carry.proofs.OfNodes.TemporaryLemmas.{IsTemporary, IsOffered, temporary, keep-taken, unspoilt, lost-taken, either}
+use Rattle.lg_carry.proofs.OfNodes.TemporaryLemmas.{IsTemporary, IsOffered, temporary, keep-taken, unspoilt, lost-taken}
 
 clash : {b : Bool} → b ≡ true → b ≡ false → ⊥
 clash e h = cc
-
-true-false : (b : Bool) → (b ≡ true) ⊎ (b ≡ false)
-true-false true = inl refl
-true-false false = inr refl
 
 -- ---- the text
 -- steps keep the fit
@@ -165,7 +162,7 @@ locals-below-end low [] a t e = cc
 locals-below-end low (f ∷ fs) a t e = ⊎_elim
     (λ here. let z = within-where (f.sp - 144 - f.locals) f.locals a here in let h = stacked-high f.sp fs t.3 in omega (arith, z.0, z.1, t.0, t.1, h.1))
     (λ there. locals-below-end f.sp fs a t.3 there)
-    (or-cases (in_locals f a) (in_any_locals fs a) e)
+    (or_cases (in_locals f a) (in_any_locals fs a) e)
 
 -- a carry stays held while its register and the flag stay
 is-moved : (o : Option ℕ) (w u : ℕ → ℕ) (f : Option Bool) (b : Bool) → ((x : ℕ) → o ≡ Some x → u x ≡ w x) → CarryIs o w f b → CarryIs o u f b
@@ -201,13 +198,13 @@ module _ {Q I : Type 0} (R : Rows Q I) (scratch : ℕ → Bool) (fits : I → Ty
 
   -- FP, the stack pointer and the carry are not taken
   frame-untaken : is_taken choices (frame_register target) ≡ false
-  frame-untaken = is-false (is_taken choices (frame_register target)) (λ e. (h.spare (frame_register target) e).pointer refl)
+  frame-untaken = false_from_ne_true (is_taken choices (frame_register target)) (λ e. (h.spare (frame_register target) e).pointer refl)
 
   stack-untaken : is_taken choices (stack_register target) ≡ false
-  stack-untaken = is-false (is_taken choices (stack_register target)) (λ e. (h.spare (stack_register target) e).stack refl)
+  stack-untaken = false_from_ne_true (is_taken choices (stack_register target)) (λ e. (h.spare (stack_register target) e).stack refl)
 
   carry-untaken : (x : ℕ) → carry_register target ≡ Some x → is_taken choices x ≡ false
-  carry-untaken x e = is-false (is_taken choices x) (λ z. (h.spare x z).carry x e refl)
+  carry-untaken x e = false_from_ne_true (is_taken choices x) (λ z. (h.spare x z).carry x e refl)
 
   -- a register that the node does not write, and neither a scratch register nor that of the carry
   record IsOther (x : ℕ) : Type 0 where
@@ -220,7 +217,7 @@ module _ {Q I : Type 0} (R : Rows Q I) (scratch : ℕ → Bool) (fits : I → Ty
       let apart = conventions-apart target in
       record {
         written = λ d named w e. clash (let z = apart.portable r (number_of d) lt (number-few d named) (e ∙ stands-for target d named) in ap (numbered (is_written n)) z ∙ numbered-at (is_written n) d named ∙ w) off;
-        kept = is-false (scratch (portable_register target r)) (λ e. (isa.apart (portable_register target r) e).portable r lt refl);
+        kept = false_from_ne_true (scratch (portable_register target r)) (λ e. (isa.apart (portable_register target r) e).portable r lt refl);
         carry = λ e. (apart.carry (portable_register target r) e).portable r lt refl;
       }
 
@@ -229,7 +226,7 @@ module _ {Q I : Type 0} (R : Rows Q I) (scratch : ℕ → Bool) (fits : I → Ty
       let apart = conventions-apart target in
       record {
         written = λ d named w e. apart.both (number_of d) j (number-few d named) lt (sym (stands-for target d named) ∙ sym e);
-        kept = is-false (scratch (slice_index (argument_registers target) j)) (λ e. (isa.apart (slice_index (argument_registers target) j) e).argument j lt refl);
+        kept = false_from_ne_true (scratch (slice_index (argument_registers target) j)) (λ e. (isa.apart (slice_index (argument_registers target) j) e).argument j lt refl);
         carry = λ e. (apart.carry (slice_index (argument_registers target) j) e).argument j lt refl;
       }
 
@@ -238,7 +235,7 @@ module _ {Q I : Type 0} (R : Rows Q I) (scratch : ℕ → Bool) (fits : I → Ty
       let apart = conventions-apart target in
       record {
         written = λ d named w e. apart.portable_pointer (number_of d) (number-few d named) (sym (stands-for target d named) ∙ sym e);
-        kept = is-false (scratch (frame_register target)) (λ e. (isa.apart (frame_register target) e).pointer refl);
+        kept = false_from_ne_true (scratch (frame_register target)) (λ e. (isa.apart (frame_register target) e).pointer refl);
         carry = λ e. (apart.carry (frame_register target) e).pointer refl;
       }
 
@@ -247,7 +244,7 @@ module _ {Q I : Type 0} (R : Rows Q I) (scratch : ℕ → Bool) (fits : I → Ty
       let apart = conventions-apart target in
       record {
         written = λ d named w e. apart.portable_stack (number_of d) (number-few d named) (sym (stands-for target d named) ∙ sym e);
-        kept = is-false (scratch (stack_register target)) (λ e. (isa.apart (stack_register target) e).stack refl);
+        kept = false_from_ne_true (scratch (stack_register target)) (λ e. (isa.apart (stack_register target) e).stack refl);
         carry = λ e. (apart.carry (stack_register target) e).stack refl;
       }
 
@@ -298,7 +295,7 @@ module _ {Q I : Type 0} (R : Rows Q I) (scratch : ℕ → Bool) (fits : I → Ty
 
     -- where the portable machine may write there is no spill slot
     pub open-off : (a : ℕ) → is_open s a ≡ true → in_slots fp a ≡ false
-    open-off a may = is-false (in_slots fp a) (λ on. let z = slot-where s.frame.sp a (omega (arith, tower.0, tower.1)) on in by on z (open-where s (R.processor.seen q).bytes a st.parts (omega (arith, st.mark, st.seen.high)) may))
+    open-off a may = false_from_ne_true (in_slots fp a) (λ on. let z = slot-where s.frame.sp a (omega (arith, tower.0, tower.1)) on in by on z (open-where s (R.processor.seen q).bytes a st.parts (omega (arith, st.mark, st.seen.high)) may))
       where
         by : {a : ℕ} → in_slots fp a ≡ true → (s.frame.sp ≤ a + 144) × (a + 104 < s.frame.sp) → (a < 0x30400000) ⊎ (in_any_locals (s.frame ∷ s.callers) a ≡ true) → ⊥
         by on z (inl l) = let low = st.low in omega (arith, z.0, l, tower.0, tower.1, low)
@@ -351,7 +348,7 @@ module _ {Q I : Type 0} (R : Rows Q I) (scratch : ℕ → Bool) (fits : I → Ty
       left-end x e = ap (λ b. if b then w x else end x) e
 
       left-other : (x : ℕ) → IsOther x → left x ≡ w x
-      left-other x o = by (true-false (is_taken choices x))
+      left-other x o = by (cases_Bool (is_taken choices x))
         where
           by : (is_taken choices x ≡ true) ⊎ (is_taken choices x ≡ false) → left x ≡ w x
           by (inl e) = left-taken x e
@@ -364,7 +361,7 @@ module _ {Q I : Type 0} (R : Rows Q I) (scratch : ℕ → Bool) (fits : I → Ty
             through = l.through;
             runs = l.runs;
             behind = l.behind;
-            registers = λ r free. l.registers r free ∙ sym (left-end r (either (is_taken choices r) (scratch r) free).0);
+            registers = λ r free. l.registers r free ∙ sym (left-end r (or_parts (is_taken choices r) (scratch r) free).0);
             bytes = l.bytes;
             slots = λ a on. l.slots a (subst (λ m. in_first_slots fp m a ≡ true) (zero-add (spilled choices)) on);
             has_mark = l.has_mark;
@@ -396,13 +393,13 @@ module _ {Q I : Type 0} (R : Rows Q I) (scratch : ℕ → Bool) (fits : I → Ty
       kept-portable r lt alive off = kept-other (portable_register target r) (other-portable r lt off) (h.live r lt alive)
 
       pub written-portable : (r : ℕ) → r < 6 → numbered (is_written n) r ≡ true → (R.processor.seen u).registers (portable_register target r) ≡ end (portable_register target r)
-      written-portable r lt on = end-at (portable_register target r) (h.unwritten r lt on) (is-false (scratch (portable_register target r)) (λ e. (isa.apart (portable_register target r) e).portable r lt refl))
+      written-portable r lt on = end-at (portable_register target r) (h.unwritten r lt on) (false_from_ne_true (scratch (portable_register target r)) (λ e. (isa.apart (portable_register target r) e).portable r lt refl))
 
       pub kept-argument : (j : ℕ) → j < length (argument_registers target) → j < length s.pushed → (R.processor.seen u).registers (slice_index (argument_registers target) j) ≡ w (slice_index (argument_registers target) j)
       kept-argument j lt there = kept-other (slice_index (argument_registers target) j) (other-argument j lt) (h.argument j lt (omega (arith, there, st.fits.pushed, ap (pushed c.nodes.nodes) at)))
 
       pub carry-end : (x : ℕ) → carry_register target ≡ Some x → (R.processor.seen u).registers x ≡ end x
-      carry-end x e = end-at x (carry-untaken x e) (is-false (scratch x) (λ z. isa.carry x z e))
+      carry-end x e = end-at x (carry-untaken x e) (false_from_ne_true (scratch x) (λ z. isa.carry x z e))
 
       module _ (to : State) (goes : step c.nodes c.shape c.addresses s ≡ Goes to []) (next : to.at ≡ s.at + 1) where
         -- the state stays in its frame
@@ -446,7 +443,7 @@ module _ {Q I : Type 0} (R : Rows Q I) (scratch : ℕ → Bool) (fits : I → Ty
       v = done R.does is q
 
       registers : (r x : ℕ) → r < 6 → S r ≡ true → p.to.regs r ≡ Some x → (R.processor.seen v).registers (portable_register target r) ≡ x
-      registers r x lt alive e = by (true-false (numbered (is_written n) r))
+      registers r x lt alive e = by (cases_Bool (numbered (is_written n) r))
         where
           by : (numbered (is_written n) r ≡ true) ⊎ (numbered (is_written n) r ≡ false) → (R.processor.seen v).registers (portable_register target r) ≡ x
           by (inl on) = written-portable p.end (R.processor.seen q).bytes p.flags p.does p.keeps r lt on ∙ p.holds.written r x lt on e
@@ -460,7 +457,7 @@ module _ {Q I : Type 0} (R : Rows Q I) (scratch : ℕ → Bool) (fits : I → Ty
       agree : StatesAgree target c frames p.to (R.processor.seen v) S
       agree = quiet-agrees target c frames s p.to (R.processor.seen q) (R.processor.seen v) (live_before n S) S st
           (stays p.end (R.processor.seen q).bytes p.flags p.does p.keeps p.to p.goes p.on.at p.on.frame p.on.callers p.on.mark)
-          record { mem = p.on.mem; data_size = p.on.data_size; args_size = p.on.args_size; pushed = p.on.pushed; bytes = λ a off. bytes-off p.end (R.processor.seen q).bytes p.flags p.does p.keeps a (either (in_slots fp a) (within (lowest s.frame - 8) 8 a) off).0 }
+          record { mem = p.on.mem; data_size = p.on.data_size; args_size = p.on.args_size; pushed = p.on.pushed; bytes = λ a off. bytes-off p.end (R.processor.seen q).bytes p.flags p.does p.keeps a (or_parts (in_slots fp a) (within (lowest s.frame - 8) 8 a) off).0 }
           record {
             registers = record { is = registers };
             carry = subst (λ f. HoldsCarry target (R.processor.seen v).registers (carry_of f) p.to.carry) (sym (flag-is p.end (R.processor.seen q).bytes p.flags p.does p.keeps))
@@ -500,9 +497,9 @@ module _ {Q I : Type 0} (R : Rows Q I) (scratch : ℕ → Bool) (fits : I → Ty
       → AreFor (around R.processor.target n live staged) needs [] needs choices → ((j : ℕ) → j < pushed c.nodes.nodes i → slice_index_or staged j false ≡ true) → AreHarmless R c i n (numbered live) choices
   harmless c i n live staged needs choices well few chosen pushes = record {
     spare = λ x e. spare-of x (temp x e).offered;
-    unwritten = λ r lt on. is-false (is_taken choices (portable_register R.processor.target r)) (λ e. none-stood-for R.processor.target (is_written n) (portable_register R.processor.target r) (temp (portable_register R.processor.target r) e).unwritten r lt on refl);
-    live = λ r lt alive. safe (portable_register R.processor.target r) (λ busy. none-stood-for R.processor.target live (portable_register R.processor.target r) (either (stands_in R.processor.target live (portable_register R.processor.target r)) (staged_in (argument_registers R.processor.target) staged (portable_register R.processor.target r)) busy).0 r lt alive refl);
-    argument = λ j lt there. safe (slice_index (argument_registers R.processor.target) j) (λ busy. none-staged R.processor.target staged (slice_index (argument_registers R.processor.target) j) (either (stands_in R.processor.target live (slice_index (argument_registers R.processor.target) j)) (staged_in (argument_registers R.processor.target) staged (slice_index (argument_registers R.processor.target) j)) busy).1 j lt (pushes j there) refl);
+    unwritten = λ r lt on. false_from_ne_true (is_taken choices (portable_register R.processor.target r)) (λ e. none-stood-for R.processor.target (is_written n) (portable_register R.processor.target r) (temp (portable_register R.processor.target r) e).unwritten r lt on refl);
+    live = λ r lt alive. safe (portable_register R.processor.target r) (λ busy. none-stood-for R.processor.target live (portable_register R.processor.target r) (or_parts (stands_in R.processor.target live (portable_register R.processor.target r)) (staged_in (argument_registers R.processor.target) staged (portable_register R.processor.target r)) busy).0 r lt alive refl);
+    argument = λ j lt there. safe (slice_index (argument_registers R.processor.target) j) (λ busy. none-staged R.processor.target staged (slice_index (argument_registers R.processor.target) j) (or_parts (stands_in R.processor.target live (slice_index (argument_registers R.processor.target) j)) (staged_in (argument_registers R.processor.target) staged (slice_index (argument_registers R.processor.target) j)) busy).1 j lt (pushes j there) refl);
     in_order = choices-in-order R place needs needs [] choices record { tried = isa.tried; named = λ r e. (well r e).1 } (omega (arith, few)) chosen;
   }
     where
@@ -518,7 +515,7 @@ module _ {Q I : Type 0} (R : Rows Q I) (scratch : ℕ → Bool) (fits : I → Ty
 
       -- a register that would be busy is not lost
       safe : (x : ℕ) → (is_busy place x ≡ false → ⊥) → lost choices (is_taken choices) x ≡ false
-      safe x unfree = by (true-false (is_taken choices x))
+      safe x unfree = by (cases_Bool (is_taken choices x))
         where
           of : (is_busy place x ≡ false) ⊎ (lost choices (is_taken choices) x ≡ false) → lost choices (is_taken choices) x ≡ false
           of (inl e) = absurd (unfree e)

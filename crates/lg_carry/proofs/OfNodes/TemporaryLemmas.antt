@@ -2,6 +2,7 @@
 use Rattle.std.proofs.Common.{◌≡◌, ℕ, ◌⊎◌, inl, inr, Bool, true, false, List, [], ◌∷◌, ◌++◌, refl, ap, sym, ◌∙◌, subst, arith}
 use Rattle.std.specs.Prelude.{◌==◌, ◌||◌, ◌&&◌, not}
 use Rattle.std.specs.List.{list_any}
+use Rattle.std.proofs.lemmas.Bool.{or_parts}
 use Rattle.lg_temp.specs.declared.choice.Need.{Need}
 use Rattle.lg_temp.specs.declared.choice.Need.TheVariants.{Any, Only}
 use Rattle.lg_temp.specs.declared.choice.Choice.{Choice}
@@ -30,11 +31,6 @@ same-self r = grind arith
 or-true : (b : Bool) → (b || true) ≡ true
 or-true true = refl
 or-true false = refl
-
--- neither of two
-pub either : (b c : Bool) → (b || c) ≡ false → (b ≡ false) × (c ≡ false)
-either true c e = cc
-either false c e = (refl, e)
 
 restored : (b : Bool) (r x : ℕ) → r ≡ x → (b && not (x == r)) ≡ false
 restored true r x e = grind (arith, e)
@@ -68,9 +64,9 @@ temporary a needs left made [] T x named h e = cc
 temporary a needs [] made (choice ∷ choices) T x named h e = absurd h
 temporary a needs (Any ∷ left) made (Own r ∷ choices) T x named h e = absurd h.0
 temporary a needs (Any ∷ left) made (Free r ∷ choices) T x named h e =
-    first-free a needs r choices T x (r == x) refl (inl h.0.0.tried) (either _ _ h.0.0.own).1 h.0.1 (λ f. temporary a needs left (made ++ Free r ∷ []) choices T x (λ y g. named y g) h.1 f) e
+    first-free a needs r choices T x (r == x) refl (inl h.0.0.tried) (or_parts _ _ h.0.0.own).1 h.0.1 (λ f. temporary a needs left (made ++ Free r ∷ []) choices T x (λ y g. named y g) h.1 f) e
 temporary a needs (Any ∷ left) made (Spill r k ∷ choices) T x named h e =
-    first-saved a needs r k choices T x (r == x) refl (inl h.0.0.tried) (either _ _ h.0.0.own).1 (λ f. temporary a needs left (made ++ Spill r k ∷ []) choices T x (λ y g. named y g) h.1 f) e
+    first-saved a needs r k choices T x (r == x) refl (inl h.0.0.tried) (or_parts _ _ h.0.0.own).1 (λ f. temporary a needs left (made ++ Spill r k ∷ []) choices T x (λ y g. named y g) h.1 f) e
 temporary a needs (Only n ∷ left) made (Own r ∷ choices) T x named h e =
     own-first a needs r choices T x (temporary a needs left (made ++ Own r ∷ []) choices T x (λ y g. named y (ap (λ b. (n == y) || b) g ∙ or-true (n == y))) h.1 e)
 temporary a needs (Only n ∷ left) made (Free r ∷ choices) T x named h e =

@@ -1,6 +1,7 @@
 -- Code that only computes: what a list of its instructions does, and that a node of it is one whose code goes straight on.
 use Rattle.std.proofs.Common.{◌≡◌, ℕ, ◌+◌, ◌≤◌, ◌⊎◌, inl, inr, Bool, true, false, List, [], ◌∷◌, ◌++◌, refl, ap, ◌∙◌, arith, length, length-append}
 use Rattle.std.specs.Prelude.{◌&&◌}
+use Rattle.std.proofs.lemmas.Bool.{and_parts}
 use Rattle.lg_base.specs.Layout.{code_base, most_code, frame_pointer}
 use Rattle.lg_base.specs.Runs.{Running}
 use Rattle.lg_op.specs.declared.node.Node.{Node}
@@ -17,10 +18,6 @@ use Rattle.lg_carry.specs.Values.Computers.{Held, Computer, held, Computes, IsCo
 
 pub pointwise : (f g : ℕ → ℕ) → ((r : ℕ) → f r ≡ g r) → f ≡ g
 pointwise f g h = λ i. λ r. h r i
-
-pub and-true : (b c : Bool) → (b && c) ≡ true → (b ≡ true) × (c ≡ true)
-and-true true c e = (refl, e)
-and-true false c e = cc
 
 pub computed-append : {I : Type 0} (by : I → Held → Held) (xs ys : List I) (w : Held) → computed by (xs ++ ys) w ≡ computed by ys (computed by xs w)
 computed-append by [] ys w = refl
@@ -43,7 +40,7 @@ module _ {Q I : Type 0} (M : Computer Q I) (ok : IsComputer M) where
       → (M.rows.processor.seen q).pc + length (spellings M.rows.spelling is) ≤ code_base + most_code → RunsThrough M is q
   computations-run [] q h runs low high = record { through = tt; runs = runs; behind = omega arith; holds = refl; bytes = λ a. refl; mark = refl }
   computations-run (i ∷ is) q h runs low high =
-      let b = and-true (M.computes i) (all_compute M.computes is) h in
+      let b = and_parts (M.computes i) (all_compute M.computes is) h in
       let long = spelled-cons M.rows.spelling i is in
       let one : Computes M i q (M.rows.does i q) = ok i q b.0 runs low (omega (arith, high, long)) in
       let m = computations-run is (M.rows.does i q) b.1 one.runs (omega (arith, low, one.behind)) (omega (arith, high, long, one.behind)) in

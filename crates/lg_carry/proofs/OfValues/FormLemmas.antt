@@ -1,6 +1,7 @@
 -- The operands of nodes that compute values.
 use Rattle.std.proofs.Common.{◌≡◌, ◌≢◌, ℕ, Bool, true, false, List, [], ◌∷◌, refl, ap, ◌∙◌}
 use Rattle.std.specs.Prelude.{◌&&◌}
+use Rattle.std.proofs.lemmas.Bool.{and_parts}
 use Rattle.lg_op.specs.Forms.{admits, admit}
 use Rattle.lg_op.specs.declared.form.Form.{Form}
 use Rattle.lg_op.specs.declared.form.Form.TheVariants.{Write, Read, ArgumentCount}
@@ -8,10 +9,6 @@ use Rattle.lg_op.specs.declared.operand.Reg.{Reg}
 use Rattle.lg_op.specs.declared.operand.Reg.TheVariants.{R0, R1, R2, V0, V1, V2, Fp}
 use Rattle.lg_op.specs.declared.operand.Operand.{Operand}
 use Rattle.lg_op.specs.declared.operand.Operand.TheVariants as operand
-
-and-true : (b c : Bool) → (b && c) ≡ true → (b ≡ true) × (c ≡ true)
-and-true true c e = (refl, e)
-and-true false c e = cc
 
 -- a register that is written, and one that is read
 pub record IsTarget (x : Operand) : Type 0 where
@@ -94,7 +91,7 @@ no-more (x ∷ xs) e = cc
 
 one : (f : Form) (fs : List Form) (xs : List Operand) → admit (f ∷ fs) xs ≡ true → (x : Operand) × (ys : List Operand) × (xs ≡ x ∷ ys) × (admits f x ≡ true) × (admit fs ys ≡ true)
 one f fs [] e = cc
-one f fs (x ∷ xs) e = let b = and-true (admits f x) (admit fs xs) e in (x, xs, refl, b.0, b.1)
+one f fs (x ∷ xs) e = let b = and_parts (admits f x) (admit fs xs) e in (x, xs, refl, b.0, b.1)
 
 pub one-operand : (f : Form) (xs : List Operand) → admit (f ∷ []) xs ≡ true → OneOperand f xs
 one-operand f xs e = let a = one f [] xs e in record { x = a.0; are = a.2 ∙ ap (λ r. a.0 ∷ r) (no-more a.1 a.4); first = a.3 }

@@ -1,6 +1,7 @@
 -- Nodes with two results, on any target.
 use Rattle.std.proofs.Common.{◌≡◌, ◌≢◌, ℕ, zero, suc, ◌<◌, ◌⊎◌, inl, inr, Bool, true, false, List, [], ◌∷◌, Option, Some, refl, sym, ap, ◌∙◌, arith}
 use Rattle.std.specs.Prelude.{◌||◌}
+use Rattle.std.proofs.lemmas.Bool.{or_left, or_right, or_cases}
 use Rattle.lg_base.specs.Conventions.{portable_register}
 use Rattle.lg_base.specs.declared.target.Target.{Target}
 use Rattle.lg_op.specs.declared.op.WideOp.{WideOp}
@@ -22,7 +23,6 @@ use Rattle.lg_temp.specs.Abis.{register_of}
 use Rattle.lg_carry.specs.FinalNodes.{Code}
 use Rattle.lg_carry.specs.NodeCode.{numbered}
 use Rattle.lg_carry.proofs.RegistersApartLemmas.{conventions-apart}
-use Rattle.lg_carry.proofs.StackLemmas.{or-cases}
 use Rattle.lg_temp.specs.declared.choice.Choice.{Choice}
 use Rattle.lg_carry.specs.TextNodes.{IsInText}
 use Rattle.lg_carry.specs.Values.ValueNodes.{wide_node}
@@ -66,14 +66,6 @@ numbered-or f g (suc (suc (suc (suc zero)))) = refl
 numbered-or f g (suc (suc (suc (suc (suc zero))))) = refl
 numbered-or f g (suc (suc (suc (suc (suc (suc r)))))) = refl
 
-pub or-left : (b c : Bool) → b ≡ true → (b || c) ≡ true
-or-left true c e = refl
-or-left false c e = cc
-
-pub or-right : (b c : Bool) → c ≡ true → (b || c) ≡ true
-or-right true c e = refl
-or-right false c e = e
-
 clash : {b : Bool} → b ≡ true → b ≡ false → ⊥
 clash e h = cc
 
@@ -88,10 +80,10 @@ module _ (target : Target) (n : Node) (d e : Reg) (nd : d ≢ Fp) (ne : e ≢ Fp
   set-is = λ i. λ q. writes q i
 
   pub writes-first : is_written n d ≡ true
-  writes-first = writes d ∙ or-right (is_same e d) (is_same d d) (same-self d nd)
+  writes-first = writes d ∙ or_right (is_same e d) (is_same d d) (same-self d nd)
 
   pub writes-second : is_written n e ≡ true
-  writes-second = writes e ∙ or-left (is_same e e) (is_same d e) (same-self e ne)
+  writes-second = writes e ∙ or_left (is_same e e) (is_same d e) (same-self e ne)
 
   pub holds-two : (s t : State) (p : ℕ × ℕ) (u : ℕ → ℕ) → t.regs ≡ with_word (with_word s.regs (number_of d) p.0) (number_of e) p.1 → HoldsPair (register_of target d) (register_of target e) p u → (written : (r x : ℕ) → r < 6 → numbered (is_written n) r ≡ true → t.regs r ≡ Some x → u (portable_register target r) ≡ x) × ((r : ℕ) → r < 6 → numbered (is_written n) r ≡ false → t.regs r ≡ s.regs r)
   holds-two s t p u regs h = (written, others)
@@ -108,7 +100,7 @@ module _ (target : Target) (n : Node) (d e : Reg) (nd : d ≢ Fp) (ne : e ≢ Fp
           ap (λ y. u (portable_register target y)) z ∙ ap u (sym (stands-for target e ne)) ∙ h.second ∙ v
 
       written : (r x : ℕ) → r < 6 → numbered (is_written n) r ≡ true → t.regs r ≡ Some x → u (portable_register target r) ≡ x
-      written r x lt on k = by (or-cases (numbered (is_same e) r) (numbered (is_same d) r) (sym (numbered-or (is_same e) (is_same d) r) ∙ ap (λ set. numbered set r) (sym set-is) ∙ on))
+      written r x lt on k = by (or_cases (numbered (is_same e) r) (numbered (is_same d) r) (sym (numbered-or (is_same e) (is_same d) r) ∙ ap (λ set. numbered set r) (sym set-is) ∙ on))
         where
           by : (numbered (is_same e) r ≡ true) ⊎ (numbered (is_same d) r ≡ true) → u (portable_register target r) ≡ x
           by (inl z) = at-second r x (only-number e r z) k
@@ -143,7 +135,7 @@ module _ {Q I : Type 0} (M : Computer Q I) (scratch : ℕ → Bool) (c : Code) (
       by last_operand.Immediate = or-false (is_same e q || is_same d q)
 
   reads-first : a ≢ Fp → is_read n a ≡ true
-  reads-first k = or-left _ false (or-left _ false (or-right _ (is_same a a) (same-self a k)))
+  reads-first k = or_left _ false (or_left _ false (or_right _ (is_same a a) (same-self a k)))
 
   pub wide-computed : ComputingNode M scratch c i n choices body
   wide-computed = record {

@@ -70,9 +70,10 @@ host-small host.Strlen = omega arith
 host-small host.Strcmp = omega arith
 
 -- ---- the nodes
-module _ {Q I : Type 0} (R : Rows Q I) (scratch : ℕ → Bool) (fits : I → Type 0) (ready : HostName → (ℕ → ℕ) → Bool) (C : Codes I)
-    (T : Controls R scratch fits ready C)
-    (c : Code) (i frame homes line : ℕ) (S : ℕ → Bool) (w : HasPlaces R c) (is-frame : IsFrameOf c i frame) (is-homes : IsHomesOf c i homes) where
+module _ {Q I : Type 0} (R : Rows Q I) (scratch : ℕ → Bool) (fits : I → Type 0) (ready : HostName → (ℕ → ℕ) → Bool) (saved : ℕ) (C : Codes I)
+    (T : Controls R scratch fits ready saved C)
+    (c : Code) (i frame homes line : ℕ) (S : ℕ → Bool) (w : HasPlaces R c) (is-frame : IsFrameOf c i frame) (is-homes : IsHomesOf c i homes)
+    (is-saved : c.saved ≡ saved) where
   abbrev node : Op → List Operand → Node
   node o xs = record { op = o; operands = xs; line = line }
 
@@ -174,12 +175,12 @@ module _ {Q I : Type 0} (R : Rows Q I) (scratch : ℕ → Bool) (fits : I → Ty
   ret : (last : LastOperand) (xs : List Operand) → admit (forms_of (op.Control control.Ret last)) xs ≡ true → AreWords c.addresses xs
       → IsInText c i (node (op.Control control.Ret last) xs) → IsNodeCode R fits c i (code-of (op.Control control.Ret last) xs)
       → CarriesNode R.processor c i (node (op.Control control.Ret last) xs) S
-  ret last_operand.Register (operand.Reg a ∷ []) h v t k = (returns-carry R fits C.ret T.returns).retrs c i line a frame S w t is-frame k
-  ret last_operand.Immediate (operand.Number x ∷ []) h v t k = (returns-carry R fits C.ret T.returns).retis c i line
-      (operand.Number x) x refl v.0 frame S w t is-frame k
+  ret last_operand.Register (operand.Reg a ∷ []) h v t k = (returns-carry R fits saved C.ret T.returns).retrs c i line a frame S w t is-frame is-saved k
+  ret last_operand.Immediate (operand.Number x ∷ []) h v t k = (returns-carry R fits saved C.ret T.returns).retis c i line
+      (operand.Number x) x refl v.0 frame S w t is-frame is-saved k
   ret last_operand.Immediate (operand.Host name ∷ []) h v t k =
-      (returns-carry R fits C.ret T.returns).retis c i line (operand.Host name) (host_address name) refl (host-small name) frame S w t is-frame k
-  ret last_operand.Immediate (operand.Label l ∷ []) h v t k = (returns-carry R fits C.ret T.returns).labels c i line l v.0 frame S w t is-frame k
+      (returns-carry R fits saved C.ret T.returns).retis c i line (operand.Host name) (host_address name) refl (host-small name) frame S w t is-frame is-saved k
+  ret last_operand.Immediate (operand.Label l ∷ []) h v t k = (returns-carry R fits saved C.ret T.returns).labels c i line l v.0 frame S w t is-frame is-saved k
   ret last_operand.Register (x ∷ y ∷ ys) h v t k = absurd (never (admits form.Read x) h)
   ret last_operand.Immediate (x ∷ y ∷ ys) h v t k = absurd (never (admits form.Immediate x) h)
   ret last xs h v t k = absurd (differ h)
@@ -195,7 +196,7 @@ module _ {Q I : Type 0} (R : Rows Q I) (scratch : ℕ → Bool) (fits : I → Ty
   prolog t k =
       let entry = (t.well.entries i (ap is_prolog_at t.here)).0 in
       let f = function_at_home c.nodes c.shape t.functions t.shape.functions i i entry in
-      prologs-carry R fits C.prolog T.prologs c i line f.0 S t f.1.here
+      prologs-carry R fits saved C.prolog T.prologs c i line f.0 S t f.1.here is-saved
       (subst (λ z. IsNodeCode R fits c i (C.prolog z (homes_at c i))) (is-frame f.0 f.1.here)
       (subst (λ z. IsNodeCode R fits c i (C.prolog frame z)) (is-homes (ap is_prolog_at t.here)) k))
 
@@ -223,9 +224,9 @@ module _ {Q I : Type 0} (R : Rows Q I) (scratch : ℕ → Bool) (fits : I → Ty
   by-op (op.Control control.Ret last) xs h v e t k = ret last xs (formed (op.Control control.Ret last) xs t) v t k
   by-op (op.Plain plain.Prolog) xs h v e t k = with-none (op.Plain plain.Prolog) xs (none xs (formed (op.Plain plain.Prolog) xs t)) t k prolog
   by-op (op.Plain plain.Epilog) xs h v e t k = with-none (op.Plain plain.Epilog) xs (none xs (formed (op.Plain plain.Epilog) xs t)) t k
-      (λ t' k'. (returns-carry R fits C.ret T.returns).epilogs c i line frame S w t' is-frame k')
+      (λ t' k'. (returns-carry R fits saved C.ret T.returns).epilogs c i line frame S w t' is-frame is-saved k')
   by-op (op.Plain plain.Ret) xs h v e t k = with-none (op.Plain plain.Ret) xs (none xs (formed (op.Plain plain.Ret) xs t)) t k
-      (λ t' k'. (returns-carry R fits C.ret T.returns).rets c i line frame S w t' is-frame k')
+      (λ t' k'. (returns-carry R fits saved C.ret T.returns).rets c i line frame S w t' is-frame is-saved k')
   by-op (op.Plain plain.Align) xs h v e t k = align xs (formed (op.Plain plain.Align) xs t) t k
   by-op (op.Plain plain.Prepare) xs h v e t k = silent-nodes-carry R fits T.isa.rows c i (node (op.Plain plain.Prepare) xs) S refl t k
   by-op (op.Plain plain.Ellipsis) xs h v e t k = silent-nodes-carry R fits T.isa.rows c i (node (op.Plain plain.Ellipsis) xs) S refl t k
@@ -234,8 +235,8 @@ module _ {Q I : Type 0} (R : Rows Q I) (scratch : ℕ → Bool) (fits : I → Ty
   by-op (op.Plain plain.VaEnd) xs h v e t k = silent-nodes-carry R fits T.isa.rows c i (node (op.Plain plain.VaEnd) xs) S refl t k
   by-op o xs h v e t k = absurd (differ h)
 
-pub control-nodes-carry : {Q I : Type 0} (R : Rows Q I) (scratch : ℕ → Bool) (fits : I → Type 0) (ready : HostName → (ℕ → ℕ) → Bool) (C : Codes I)
-    → Controls R scratch fits ready C
-    → ControlNodesCarry R fits C
-control-nodes-carry R scratch fits ready C T c i n frame homes S h w v e is-frame is-homes t k =
-    by-op R scratch fits ready C T c i frame homes n.line S w is-frame is-homes n.op n.operands h v e t k
+pub control-nodes-carry : {Q I : Type 0} (R : Rows Q I) (scratch : ℕ → Bool) (fits : I → Type 0) (ready : HostName → (ℕ → ℕ) → Bool) (saved : ℕ) (C : Codes I)
+    → Controls R scratch fits ready saved C
+    → ControlNodesCarry R fits saved C
+control-nodes-carry R scratch fits ready saved C T c i n frame homes S h w v e is-frame is-homes is-saved t k =
+    by-op R scratch fits ready saved C T c i frame homes n.line S w is-frame is-homes is-saved n.op n.operands h v e t k

@@ -13,8 +13,8 @@ use Rattle.lg_sel.proofs.OfControl.FrameWordLemmas.{word_at, stack-word, same-wo
 use Rattle.lg_sel.proofs.OfControl.StoreLemmas.{HasStack}
 
 -- what such code leaves
-pub record IsLeft {Q : Type 0} (P : Processor Q) (sp back : ℕ) (v : Option ℕ) (q u : Q) : Type 0 where
-  pub saved : (j : ℕ) → j < 3 → (P.seen u).registers (portable_register P.target (j + 3)) ≡ word_at (P.seen q).bytes (saved_word (frame_pointer sp) j)
+pub record IsLeft {Q : Type 0} (P : Processor Q) (sp kept back : ℕ) (v : Option ℕ) (q u : Q) : Type 0 where
+  pub saved : (j : ℕ) → j < kept → j < 3 → (P.seen u).registers (portable_register P.target (j + 3)) ≡ word_at (P.seen q).bytes (saved_word (frame_pointer sp) j)
   pub pointer : (P.seen u).registers (frame_register P.target) ≡ word_at (P.seen q).bytes (frame_pointer sp)
   pub stack : (P.seen u).registers (stack_register P.target) ≡ sp
   pub result : (x : ℕ) → v ≡ Some x → (P.seen u).registers (result_register P.target) ≡ x
@@ -23,13 +23,13 @@ pub record IsLeft {Q : Type 0} (P : Processor Q) (sp back : ℕ) (v : Option ℕ
   pub here : (P.seen u).pc ≡ back
   pub progress : P.machine.status u ≡ status_of (arrived back)
 
-module _ {Q : Type 0} (P : Processor Q) (sp back : ℕ) (v : Option ℕ) (q u : Q) (room : 0x3FF00010 + 272 ≤ sp) (top : sp ≤ 0x40000000)
-    (there : HasStack (P.seen q).bytes) (is : IsLeft P sp back v q u) where
+module _ {Q : Type 0} (P : Processor Q) (sp kept back : ℕ) (v : Option ℕ) (q u : Q) (room : 0x3FF00010 + 272 ≤ sp) (top : sp ≤ 0x40000000)
+    (there : HasStack (P.seen q).bytes) (is : IsLeft P sp kept back v q u) where
   -- a word of the frame comes back
   comes-back : (a x y : ℕ) → 0x3FF00000 ≤ a → a + 8 ≤ 0x40000000 → y ≡ word_at (P.seen q).bytes a → HasWord (P.seen q).bytes a x → y ≡ x
   comes-back a x y low high e h = e ∙ same-word (P.seen q).bytes a (word_at (P.seen q).bytes a) x (stack-word (P.seen q).bytes a there low high) h
 
-  pub departure : (low high steps : ℕ) → PassesIn P true low high steps q u → Rises P steps q → steps ≤ 64 → 0 < steps → Departure P low high sp back v q
+  pub departure : (low high steps : ℕ) → PassesIn P true low high steps q u → Rises P steps q → steps ≤ 64 → 0 < steps → Departure P low high sp kept back v q
   departure low high steps passes rises few some = record {
     end = u;
     steps = steps;
@@ -42,7 +42,7 @@ module _ {Q : Type 0} (P : Processor Q) (sp back : ℕ) (v : Option ℕ) (q u : 
     here = is.here;
     stack_is = is.stack;
     pointer = λ x h. comes-back (frame_pointer sp) x _ (omega (arith, room)) (omega (arith, top)) is.pointer h;
-    saved = λ j x lt h. comes-back (saved_word (frame_pointer sp) j) x _ (omega (arith, room, lt)) (omega (arith, top)) (is.saved j lt) h;
+    saved = λ j x few-saved lt h. comes-back (saved_word (frame_pointer sp) j) x _ (omega (arith, room, lt)) (omega (arith, top)) (is.saved j few-saved lt) h;
     result = is.result;
     bytes = is.bytes;
     mark = is.mark;

@@ -9,6 +9,7 @@ use Rattle.lg_op.specs.declared.node.Node.{Node}
 use Rattle.lg_node.specs.declared.function.Function.{Function}
 use Rattle.lg_node.specs.Functions.{home, is_prolog_at, is_epilog_at, frame_of}
 use Rattle.lg_node.specs.Preparations.{prepared_before}
+use Rattle.lg_meaning.specs.Fits.{AreLinked}
 use Rattle.lg_meaning.specs.States.{Frame, State}
 use Rattle.lg_meaning.specs.Steps.{Goes, on, begun, need, quiet, function_here}
 use Rattle.lg_meaning.specs.Texts.{text, step_at, step}
@@ -16,7 +17,7 @@ use Rattle.lg_carry.specs.Carries.{Leads, moves_at}
 use Rattle.lg_carry.specs.FinalNodes.{Code, is_inside}
 use Rattle.lg_carry.specs.Frames.{at_call, return_address, MayKeepCaller, MayHoldCaller, HasFrameWords, IsArriving, IsRunning}
 use Rattle.lg_carry.specs.Homes.{homes_at}
-use Rattle.lg_carry.specs.NodeCode.{live_before, live_behind}
+use Rattle.lg_carry.specs.NodeCode.{live_before, live_behind, ReturnsTo}
 use Rattle.lg_carry.specs.Passages.{IsNodeCode, Passes}
 use Rattle.lg_carry.specs.Registers.{HasWord}
 use Rattle.lg_carry.specs.Rows.{Rows}
@@ -29,7 +30,7 @@ use Rattle.lg_carry.proofs.TextShapeLemmas.{shaped}
 use Rattle.lg_carry.specs.Nodes.Stretches.{behind}
 use Rattle.lg_carry.proofs.OfNodes.HomesLemmas.{homes-same}
 use Rattle.lg_carry.proofs.OfNodes.LeapLemmas.{outer-is, next-inside, node-stands, node-passes}
-use Rattle.lg_carry.proofs.OfNodes.LiveLemmas.{unwritten, still-live}
+use Rattle.lg_carry.proofs.OfNodes.LiveLemmas.{unwritten, still-live, live-saved}
 use Rattle.lg_carry.proofs.OfNodes.StraightLemmas.{text-keeps}
 use Rattle.lg_sel.specs.Control.Prologs.{Entrance, PrologsLead, prolog_node, PrologsCarry}
 
@@ -41,19 +42,21 @@ arriving target c live s b m w e h = subst (λ x. IsRunning x target c.place m w
 
 keeps-caller : (target : Target) (m : ℕ → Option ℕ) (w : ℕ → ℕ) (f : Frame) (size locals : ℕ) (gs : List Frame) (live : ℕ → Bool)
     → HasWord m (frame_pointer f.sp) (w (frame_register target))
-    → ((v : ℕ) → v < 3 → HasWord m (saved_word (frame_pointer f.sp) v) (w (portable_register target (v + 3)))) → MayHoldCaller target w f gs live
+    → ((g : Frame) (hs : List Frame) → gs ≡ g ∷ hs → (v : ℕ) → v < 3 → live (v + 3) ≡ true
+    → HasWord m (saved_word (frame_pointer f.sp) v) (w (portable_register target (v + 3))))
+    → MayHoldCaller target w f gs live
     → MayKeepCaller m (record f { size = size; locals = locals }) gs live
 keeps-caller target m w f size locals [] live pointer saved h = tt
 keeps-caller target m w f size locals (g ∷ gs) live pointer saved h = record {
   pointer = subst (HasWord m (frame_pointer f.sp)) h.pointer pointer;
-  saved = λ v x lt l e. subst (HasWord m (saved_word (frame_pointer f.sp) v)) (h.saved v x lt l e) (saved v lt);
+  saved = λ v x lt l e. subst (HasWord m (saved_word (frame_pointer f.sp) v)) (h.saved v x lt l e) (saved g gs refl v lt l);
 }
 
 -- ---- the node
-module _ {Q I : Type 0} (R : Rows Q I) (fits : I → Type 0) (code : ℕ → ℕ → List I) (lead : PrologsLead R fits code) (c : Code) (i line : ℕ) (f : Function)
+module _ {Q I : Type 0} (R : Rows Q I) (fits : I → Type 0) (saved : ℕ) (code : ℕ → ℕ → List I) (lead : PrologsLead R fits saved code) (c : Code) (i line : ℕ) (f : Function)
     (S : ℕ → Bool) (t : IsInText c i (prolog_node line))
-    (function : function_here c.shape.functions i ≡ Some f) (k : IsNodeCode R fits c i (code (frame_of f) (homes_at c i))) (live : Frame → ℕ → Bool) (s : State)
-    (out : List ℕ) (q : Q) (at : s.at ≡ i)
+    (function : function_here c.shape.functions i ≡ Some f) (is-saved : c.saved ≡ saved) (k : IsNodeCode R fits c i (code (frame_of f) (homes_at c i)))
+    (live : Frame → ℕ → Bool) (s : State) (returns : ReturnsTo c live (prolog_node line) S s) (out : List ℕ) (q : Q) (at : s.at ≡ i)
     (st : Stands R.processor c live s out q (live_before (prolog_node line) S)) where
   abbrev n : Node
   n = prolog_node line
@@ -90,7 +93,7 @@ module _ {Q I : Type 0} (R : Rows Q I) (fits : I → Type 0) (code : ℕ → ℕ
   arrives = arriving target c live s (is_inside c s.at) (R.processor.seen q).bytes (R.processor.seen q).registers
       (ap (is_inside c) at ∙ outer-is (home c.nodes.nodes i) i entry) st.state.frame
 
-  enters : Entrance R.processor (c.place i) high sp (frame_of f) homes q
+  enters : Entrance R.processor (c.place i) high sp (frame_of f) homes saved q
   enters = lead (frame_of f) homes (c.place i) sp q st.state.seen large room top.1 top.0 arrives.stack (node-stands R true fits c i (code (frame_of f) homes) (ap (moves_at target) t.here) k) st.runs
       (st.state.here ∙ ap c.place at)
 
@@ -107,11 +110,18 @@ module _ {Q I : Type 0} (R : Rows Q I) (fits : I → Type 0) (code : ℕ → ℕ
   goes = ap (λ x. step_at (text c.nodes c.shape c.addresses) x s) (ap (slice_get c.nodes.nodes) at ∙ t.here)
       ∙ ap (λ o. need o (λ g. quiet (on (begun s g)))) (ap (function_here c.shape.functions) at ∙ function)
 
+  -- what is live at the return is saved
+  live-stored : (g : Frame) (gs : List Frame) → s.callers ≡ g ∷ gs → (v : ℕ) → v < 3 → live (at_call s.frame) (v + 3) ≡ true
+      → HasWord (R.processor.seen u).bytes (saved_word (frame_pointer sp) v) ((R.processor.seen q).registers (portable_register target (v + 3)))
+  live-stored g gs e v lt l =
+      let less = live-saved c live s.frame g gs returns.saves (subst (λ l. AreLinked c.nodes c.shape s.frame l) e st.state.fits.linked) v lt l in
+      enters.saved v (omega (arith, less, is-saved)) lt
+
   words : HasFrameWords target c.place (R.processor.seen u).bytes s'.frame s.callers (live (at_call s.frame)) homes
   words = record {
     back = enters.back (return_address c.place s.frame s.callers) arrives.link;
     caller = keeps-caller target (R.processor.seen u).bytes (R.processor.seen q).registers s.frame (frame_of f) f.locals s.callers
-        (live (at_call s.frame)) enters.caller enters.saved arrives.caller;
+        (live (at_call s.frame)) enters.caller live-stored arrives.caller;
     homes = λ j x read lt e. subst (HasWord (R.processor.seen u).bytes _) (arrives.arguments.is j x lt e) (enters.homes j read lt);
   }
 
@@ -160,6 +170,7 @@ module _ {Q I : Type 0} (R : Rows Q I) (fits : I → Type 0) (code : ℕ → ℕ
         state = agree;
       })
 
-pub prologs-carry : {Q I : Type 0} (R : Rows Q I) (fits : I → Type 0) (code : ℕ → ℕ → List I) → PrologsLead R fits code → PrologsCarry R fits code
-prologs-carry R fits code lead c i line f S t function k live s returns out q at st =
-    inr (prolog-leads R fits code lead c i line f S t function k live s out q at st)
+pub prologs-carry : {Q I : Type 0} (R : Rows Q I) (fits : I → Type 0) (saved : ℕ) (code : ℕ → ℕ → List I) → PrologsLead R fits saved code
+    → PrologsCarry R fits saved code
+prologs-carry R fits saved code lead c i line f S t function is-saved k live s returns out q at st =
+    inr (prolog-leads R fits saved code lead c i line f S t function is-saved k live s returns out q at st)

@@ -120,7 +120,7 @@ module _ {Q I : Type 0} (R : Rows Q I) (ready : HostName → (ℕ → ℕ) → B
       (k : IsNodeCode R fits c i (code size a))
       (inside : is_inside c i ≡ true) (next : is_inside c (i + 1) ≡ true) (calls : is_call n.op ≡ true)
       (saved : (v : ℕ) → v < 3 → numbered (is_written n) (v + 3) ≡ false)
-      (reads : a ≢ Fp → live_before n S (number_of a) ≡ true) (live : Frame → ℕ → Bool) (s : State) (returns : ReturnsTo live n S s) (out : List ℕ) (q : Q)
+      (reads : a ≢ Fp → live_before n S (number_of a) ≡ true) (live : Frame → ℕ → Bool) (s : State) (returns : ReturnsTo c live n S s) (out : List ℕ) (q : Q)
       (at : s.at ≡ i)
       (st : Stands R.processor c live s out q (live_before n S)) (args : List ℕ) (few-args : length args ≤ 16)
       (held : HoldsArguments R.processor.target (R.processor.seen q).registers args)

@@ -1,5 +1,5 @@
 -- Returns are carried by code that leaves the frame.
-use Rattle.std.proofs.Common.{◌≡◌, ◌≢◌, ℕ, ◌+◌, ◌⊎◌, inl, inr, Bool, true, List, [], ◌∷◌, Option, Some, None, refl, sym, ap, ◌∙◌, subst, arith, append-nil}
+use Rattle.std.proofs.Common.{◌≡◌, ◌≢◌, ℕ, ◌+◌, ◌<◌, ◌⊎◌, inl, inr, Bool, true, List, [], ◌∷◌, Option, Some, None, refl, sym, ap, ◌∙◌, subst, arith, append-nil}
 use Rattle.std.specs.Prelude.{slice_get, slice_index, if◌then◌else◌}
 use Rattle.lg_carry.proofs.TurnLemmas.{rising-turns, return-moves, return-no-sink}
 use Rattle.lg_base.specs.Conventions.{stack_register}
@@ -22,7 +22,7 @@ use Rattle.lg_carry.specs.Carries.{Meets, Leads, calls_at, moves_at}
 use Rattle.lg_carry.specs.FinalNodes.{Code, is_inside}
 use Rattle.lg_carry.specs.Frames.{at_call, IsSettled, return_address}
 use Rattle.lg_carry.specs.Homes.{homes_at}
-use Rattle.lg_carry.specs.NodeCode.{live_before, live_behind, is_return}
+use Rattle.lg_carry.specs.NodeCode.{live_before, live_behind, is_return, ReturnsTo}
 use Rattle.lg_carry.specs.Passages.{IsNodeCode, Passes}
 use Rattle.lg_carry.specs.Registers.{HasWord}
 use Rattle.lg_carry.specs.Rows.{Rows}
@@ -36,6 +36,7 @@ use Rattle.lg_carry.specs.Nodes.Stretches.{HasFrame, behind}
 use Rattle.lg_carry.proofs.OfNodes.CallLemmas.{frame, tower, held-frame}
 use Rattle.lg_carry.proofs.OfNodes.HomesLemmas.{inside-home}
 use Rattle.lg_carry.proofs.OfNodes.LeapLemmas.{stands-inside, node-stands, node-passes, there}
+use Rattle.lg_carry.proofs.OfNodes.LiveLemmas.{live-saved}
 use Rattle.lg_carry.proofs.OfNodes.OperandLemmas.{named-here, read-is-live, immediate-value}
 use Rattle.lg_carry.proofs.OfNodes.RegisterLemmas.{given}
 use Rattle.lg_carry.proofs.OfNodes.StraightLemmas.{text-keeps}
@@ -43,11 +44,11 @@ use Rattle.lg_sel.specs.Control.Returns.{Returned, NoWord, OfRegister, OfNumber,
 use Rattle.lg_sel.specs.Control.Returns.{epilog_node, retr_node, reti_node, ReturnsCarry}
 
 -- ---- a node that returns
-module _ {Q I : Type 0} (R : Rows Q I) (fits : I → Type 0) (code : ℕ → Returned → List I) (lead : ReturnsLead R fits code) where
+module _ {Q I : Type 0} (R : Rows Q I) (fits : I → Type 0) (saved : ℕ) (code : ℕ → Returned → List I) (lead : ReturnsLead R fits saved code) where
   module _ (c : Code) (i : ℕ) (n : Node) (r : Returned) (size : ℕ) (S : ℕ → Bool) (w : HasPlaces R c) (t : IsInText c i n) (is-frame : IsFrameOf c i size)
-      (k : IsNodeCode R fits c i (code size r))
-      (is : is_return n.op ≡ true) (inside : is_inside c i ≡ true) (ok : IsReturned r) (live : Frame → ℕ → Bool) (s : State) (out : List ℕ) (q : Q)
-      (at : s.at ≡ i)
+      (is-saved : c.saved ≡ saved) (k : IsNodeCode R fits c i (code size r))
+      (is : is_return n.op ≡ true) (inside : is_inside c i ≡ true) (ok : IsReturned r) (live : Frame → ℕ → Bool) (s : State) (returns : ReturnsTo c live n S s)
+      (out : List ℕ) (q : Q) (at : s.at ≡ i)
       (st : Stands R.processor c live s out q (live_before n S))
       (steps : step c.nodes c.shape c.addresses s ≡ leave s (returned_word R.processor.target (R.processor.seen q).registers r)) where
     abbrev target : Target
@@ -88,6 +89,12 @@ module _ {Q I : Type 0} (R : Rows Q I) (fits : I → Type 0) (code : ℕ → Ret
     back-inside : (g : Frame) (gs : List Frame) → s.callers ≡ g ∷ gs → is_inside c s.frame.back ≡ true
     back-inside g gs e = (shaped c.nodes t.well).back c.shape s.frame g gs (subst (λ l. AreLinked c.nodes c.shape s.frame l) e st.state.fits.linked)
 
+    -- what is live there is saved
+    saved-live : (g : Frame) (gs : List Frame) → s.callers ≡ g ∷ gs → (j : ℕ) → j < 3 → live (at_call s.frame) (j + 3) ≡ true → j < saved
+    saved-live g gs e j lt l =
+        let less = live-saved c live s.frame g gs returns.saves (subst (λ l. AreLinked c.nodes c.shape s.frame l) e st.state.fits.linked) j lt l in
+        omega (arith, less, is-saved)
+
     back-there : (gs : List Frame) → s.callers ≡ gs → IsBack R (return_address c.place s.frame gs)
     back-there [] e = inr refl
     back-there (g ∷ gs) e =
@@ -96,10 +103,10 @@ module _ {Q I : Type 0} (R : Rows Q I) (fits : I → Type 0) (code : ℕ → Ret
         let from = (subst (λ l. AreLinked c.nodes c.shape s.frame l) e st.state.fits.linked).0 in
         inl (there R c w s.frame.back (omega (arith, lt)) (inr (from.at, from.back, ap calls_at from.here ∙ from.calls)))
 
-    departs : Departure R.processor (c.place i) high s.frame.sp back v q
+    departs : Departure R.processor (c.place i) high s.frame.sp saved back v q
     departs =
         let word = subst (λ z. HasWord (R.processor.seen q).bytes (return_word z) back) (sym stack-is) settled-frame.words.back in
-        subst (λ z. Departure R.processor (c.place i) high z back v q) stack-is
+        subst (λ z. Departure R.processor (c.place i) high z saved back v q) stack-is
         (lead size (c.place i) back r q ok has-frame (node-stands R true fits c i (code size r) moves k) (back-there s.callers refl) word st.runs
         (st.state.here ∙ ap c.place at))
 
@@ -126,7 +133,7 @@ module _ {Q I : Type 0} (R : Rows Q I) (fits : I → Type 0) (code : ℕ → Ret
           behind = back-inside g gs e;
           stack = departs.stack_is;
           pointer = departs.pointer;
-          loads = departs.saved;
+          loads = λ j x lt l. departs.saved j x (saved-live g gs e j lt l) lt;
           result = record { is = departs.result };
           bytes = λ a. ap (λ m. m a) departs.bytes;
         }
@@ -152,21 +159,21 @@ module _ {Q I : Type 0} (R : Rows Q I) (fits : I → Type 0) (code : ℕ → Ret
         (passages-lead R.processor c live (live_behind live n S s) i departs.steps (leave s v) out q u pass (rising-turns R.processor c i n t.here (return-no-sink n.op is) departs.steps q departs.rises) departs.few
         (λ e. absurd (let z = departs.some in omega (arith, e, z))) (λ e. departs.some) st.wrote (meets s.callers refl))
 
-  pub returns-carry : ReturnsCarry R fits code
+  pub returns-carry : ReturnsCarry R fits saved code
   returns-carry = record {
-    rets = λ c i line size S w t is-frame k live s returns out q at st. inr
-        (returns-lead c i (ret_node line) NoWord size S w t is-frame k refl (stands-inside c i (ret_node line) t refl refl) tt live s out q at st
+    rets = λ c i line size S w t is-frame is-saved k live s returns out q at st. inr
+        (returns-lead c i (ret_node line) NoWord size S w t is-frame is-saved k refl (stands-inside c i (ret_node line) t refl refl) tt live s returns out q at st
         (stepped c i (ret_node line) t s at));
-    epilogs = λ c i line size S w t is-frame k live s returns out q at st. inr
-        (returns-lead c i (epilog_node line) NoWord size S w t is-frame k refl (stands-inside c i (epilog_node line) t refl refl) tt live s out q at st
+    epilogs = λ c i line size S w t is-frame is-saved k live s returns out q at st. inr
+        (returns-lead c i (epilog_node line) NoWord size S w t is-frame is-saved k refl (stands-inside c i (epilog_node line) t refl refl) tt live s returns out q at st
         (stepped c i (epilog_node line) t s at));
-    retrs = λ c i line a size S w t is-frame k live s returns out q at st. register c i line a size S w t is-frame k live s out q at st (reg s a) refl;
-    retis = λ c i line x v word small size S w t is-frame k live s returns out q at st. inr
-        (returns-lead c i (reti_node x line) (OfNumber v) size S w t is-frame k refl (stands-inside c i (reti_node x line) t refl refl) small live s out q at st
+    retrs = λ c i line a size S w t is-frame is-saved k live s returns out q at st. register c i line a size S w t is-frame is-saved k live s returns out q at st (reg s a) refl;
+    retis = λ c i line x v word small size S w t is-frame is-saved k live s returns out q at st. inr
+        (returns-lead c i (reti_node x line) (OfNumber v) size S w t is-frame is-saved k refl (stands-inside c i (reti_node x line) t refl refl) small live s returns out q at st
         (stepped c i (reti_node x line) t s at ∙ ap (λ z. need z (λ y. leave s (Some y))) (immediate-value c.addresses s x v word)));
-    labels = λ c i line l small size S w t is-frame k live s returns out q at st. inr
-        (returns-lead c i (reti_node (operand.Label l) line) (OfLabel (slice_index c.addresses l.0)) size S w t is-frame k refl
-        (stands-inside c i (reti_node (operand.Label l) line) t refl refl) small live s out q at st (stepped c i (reti_node (operand.Label l) line) t s at));
+    labels = λ c i line l small size S w t is-frame is-saved k live s returns out q at st. inr
+        (returns-lead c i (reti_node (operand.Label l) line) (OfLabel (slice_index c.addresses l.0)) size S w t is-frame is-saved k refl
+        (stands-inside c i (reti_node (operand.Label l) line) t refl refl) small live s returns out q at st (stepped c i (reti_node (operand.Label l) line) t s at));
   }
     where
       stepped : (c : Code) (i : ℕ) (n : Node) → IsInText c i n → (s : State) → s.at ≡ i
@@ -174,17 +181,17 @@ module _ {Q I : Type 0} (R : Rows Q I) (fits : I → Type 0) (code : ℕ → Ret
       stepped c i n t s at = ap (λ x. step_at (text c.nodes c.shape c.addresses) x s) (ap (slice_get c.nodes.nodes) at ∙ t.here)
 
       register : (c : Code) (i line : ℕ) (a : Reg) (size : ℕ) (S : ℕ → Bool) → HasPlaces R c → (t : IsInText c i (retr_node a line)) → IsFrameOf c i size
-          → IsNodeCode R fits c i (code size (OfRegister a))
-          → (live : Frame → ℕ → Bool) (s : State) (out : List ℕ) (q : Q) → s.at ≡ i → Stands R.processor c live s out q (live_before (retr_node a line) S)
+          → c.saved ≡ saved → IsNodeCode R fits c i (code size (OfRegister a))
+          → (live : Frame → ℕ → Bool) (s : State) → ReturnsTo c live (retr_node a line) S s → (out : List ℕ) (q : Q) → s.at ≡ i → Stands R.processor c live s out q (live_before (retr_node a line) S)
           → (o : Option ℕ) → reg s a ≡ o
           → (step c.nodes c.shape c.addresses s ≡ Undefined)
           ⊎ Leads R.processor c live (live_behind live (retr_node a line) S s) i (step c.nodes c.shape c.addresses s) out q
-      register c i line a size S w t is-frame k live s out q at st None e =
+      register c i line a size S w t is-frame is-saved k live s returns out q at st None e =
           inl (stepped c i (retr_node a line) t s at ∙ ap (λ z. need z (λ x. leave s (Some x))) e)
-      register c i line a size S w t is-frame k live s out q at st (Some x) e =
+      register c i line a size S w t is-frame is-saved k live s returns out q at st (Some x) e =
           let n = retr_node a line in
           let inside = stands-inside c i n t refl refl in
           let live-a = λ (ne : a ≢ Fp). read-is-live n S a (λ z. named-here Read form.Read [] a [] refl z) ne in
           let held = given R.processor.target c live s (R.processor.seen q) (live_before n S) a x st.state (ap (is_inside c) at ∙ inside) live-a e in
-          inr (returns-lead c i n (OfRegister a) size S w t is-frame k refl inside tt live s out q at st
+          inr (returns-lead c i n (OfRegister a) size S w t is-frame is-saved k refl inside tt live s returns out q at st
           (stepped c i n t s at ∙ ap (λ z. need z (λ x. leave s (Some x))) e ∙ ap (λ z. leave s (Some z)) (sym held)))

@@ -9,7 +9,7 @@ use Rattle.lg_base.specs.Fields.{word_of}
 use Rattle.lg_base.specs.Parts.{stack_base}
 use Rattle.lg_base.specs.Spaces.{mapped, stored}
 use Rattle.lg_base.specs.Words.{add_words}
-use Rattle.lg_base.specs.Conventions.{argument_registers}
+use Rattle.lg_base.specs.Conventions.{argument_registers, portable_register}
 use Rattle.lg_base.specs.declared.flags.Flags.{Flags}
 use Rattle.lg_base.specs.declared.target.Target.{Target}
 use Rattle.lg_base.proofs.SpaceLemmas.{mapped-all, loaded-stored, stored-out}
@@ -23,14 +23,17 @@ use Rattle.lg_carry.proofs.SpillLemmas.{stored-there}
 use Rattle.lg_carry.proofs.WordLemmas.{word-kept}
 use Rattle.lg_sel.specs.Holes.{Holes, words_in, ones}
 use Rattle.lg_sel.proofs.ListLemmas.{words_append, ones-append, words-ones}
-use Rattle.lg_sel.specs.Control.Stores.{stored_registers, stores_below}
+use Rattle.lg_sel.specs.Control.Stores.{first_registers, home_registers, stores_below}
 use Rattle.lg_sel.proofs.OfControl.ChainLemmas.{RunsAt, next-at, Chain, chain-more}
 
 -- ---- how many there are
--- at most 13, with eight arguments in registers
-pub stored-few : (target : Target) (link homes : ℕ) → length (stored_registers target link homes) ≤ 13
-stored-few target link homes =
-    let eight = registers-few target in let e = length-take homes (argument_registers target) in omega (arith, eight, e)
+-- at most five, and at most eight homes
+pub first-few : (target : Target) (link saved : ℕ) → length (first_registers target link saved) ≤ 5
+first-few target link saved =
+    let e = length-take saved (portable_register target 3 ∷ portable_register target 4 ∷ portable_register target 5 ∷ []) in omega (arith, e)
+
+pub homes-few : (target : Target) (homes : ℕ) → length (home_registers target homes) ≤ 8
+homes-few target homes = let eight = registers-few target in let e = length-take homes (argument_registers target) in omega (arith, eight, e)
 
 -- what holds of all holds of the first
 pub take-all : (p : ℕ → Bool) (rs : List ℕ) (n : ℕ) → list_all p rs ≡ true → list_all p (take n rs) ≡ true

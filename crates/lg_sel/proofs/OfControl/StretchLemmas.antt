@@ -1,6 +1,7 @@
 -- Instructions that stand in the code, and runs over them.
 use Rattle.std.proofs.Common.{◌≡◌, ◌≢◌, ℕ, ◌+◌, ◌%◌, ◌<◌, ◌≤◌, Bool, true, false, List, [], ◌∷◌, ◌++◌, Some, refl, sym, ap, ◌∙◌, subst, arith, length, append-nil, drop, ◌-◌}
 use Rattle.std.specs.Prelude.{◌==◌, slice_index}
+use Rattle.std.proofs.lemmas.Bool.{false_from_ne_true}
 use Rattle.lg_carry.proofs.TurnLemmas.{block-sinks, block-rises, still-lowers}
 use Rattle.lg_carry.proofs.BlockLemmas.{blocks-run}
 use Rattle.lg_carry.specs.Outside.{calls_move}
@@ -71,9 +72,6 @@ module _ {Q I : Type 0} (R : Rows Q I) (fits : I → Type 0) (ok : AreRows R fit
   still-sunk from is q k at block through = all-sunk false from is q k at block through (still-lowers R is q k.outside)
 
 -- ---- where no register of the conventions changes, the code walks
-unspoilt : (b : Bool) → (b ≡ true → ⊥) → b ≡ false
-unspoilt true h = absurd (h refl)
-unspoilt false h = refl
 
 module _ {Q : Type 0} (P : Processor Q) where
   pub walked : (spoilt : ℕ → Bool) → ((x : ℕ) → spoilt x ≡ true → IsApart P.target x × (link_register P.target ≢ Some x))
@@ -88,12 +86,12 @@ module _ {Q : Type 0} (P : Processor Q) where
     some = some;
     runs = runs;
     here = here;
-    portable = λ r lt. same (portable_register P.target r) (unspoilt (spoilt (portable_register P.target r)) (λ e. (apart _ e).0.portable r lt refl));
+    portable = λ r lt. same (portable_register P.target r) (false_from_ne_true (spoilt (portable_register P.target r)) (λ e. (apart _ e).0.portable r lt refl));
     arguments = λ j lt. same (slice_index (argument_registers P.target) j)
-        (unspoilt (spoilt (slice_index (argument_registers P.target) j)) (λ e. (apart _ e).0.argument j lt refl));
-    pointer = same (frame_register P.target) (unspoilt (spoilt (frame_register P.target)) (λ e. (apart _ e).0.pointer refl));
-    stack = same (stack_register P.target) (unspoilt (spoilt (stack_register P.target)) (λ e. (apart _ e).0.stack refl));
-    link = λ x l. same x (unspoilt (spoilt x) (λ e. (apart x e).1 l));
+        (false_from_ne_true (spoilt (slice_index (argument_registers P.target) j)) (λ e. (apart _ e).0.argument j lt refl));
+    pointer = same (frame_register P.target) (false_from_ne_true (spoilt (frame_register P.target)) (λ e. (apart _ e).0.pointer refl));
+    stack = same (stack_register P.target) (false_from_ne_true (spoilt (stack_register P.target)) (λ e. (apart _ e).0.stack refl));
+    link = λ x l. same x (false_from_ne_true (spoilt x) (λ e. (apart x e).1 l));
     bytes = bytes-are;
     mark = mark-is;
   }

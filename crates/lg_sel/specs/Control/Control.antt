@@ -126,8 +126,9 @@ abbrev pub ends_in_label : List Operand → Bool
 ends_in_label (x ∷ y ∷ operand.Label l ∷ xs) = true
 ends_in_label xs = false
 
--- what the code of each family does wherever it stands
-pub record Controls {Q I : Type 0} (R : Rows Q I) (scratch : ℕ → Bool) (fits : I → Type 0) (ready : HostName → (ℕ → ℕ) → Bool) (C : Codes I) : Type 0 where
+-- what the code of each family does wherever it stands, where frames save so many of V0 to V2
+pub record Controls {Q I : Type 0} (R : Rows Q I) (scratch : ℕ → Bool) (fits : I → Type 0) (ready : HostName → (ℕ → ℕ) → Bool) (saved : ℕ) (C : Codes I)
+    : Type 0 where
   pub isa : IsIsa R scratch fits
   pub branches : BranchesLead R scratch fits C.branch
   pub sum_branches : SumBranchesLead R scratch fits C.sum_branch
@@ -138,14 +139,14 @@ pub record Controls {Q I : Type 0} (R : Rows Q I) (scratch : ℕ → Bool) (fits
   pub register_calls : RegisterCallsLead R fits C.register_call
   pub register_host_calls : RegisterHostCallsLead R ready fits C.register_call
   pub hosts : EntersHosts R.processor ready
-  pub returns : ReturnsLead R fits C.ret
-  pub prologs : PrologsLead R fits C.prolog
+  pub returns : ReturnsLead R fits saved C.ret
+  pub prologs : PrologsLead R fits saved C.prolog
   pub alignments : AlignmentsWalk R fits C.align
 
 -- each such node is carried by its code
-abbrev pub ControlNodesCarry : {Q I : Type 0} → Rows Q I → (I → Type 0) → Codes I → Type 0
-ControlNodesCarry R fits C =
+abbrev pub ControlNodesCarry : {Q I : Type 0} → Rows Q I → (I → Type 0) → ℕ → Codes I → Type 0
+ControlNodesCarry R fits saved C =
     (c : Code) (i : ℕ) (n : Node) (frame homes : ℕ) (S : ℕ → Bool) → is_control n.op ≡ true → HasPlaces R c → AreWords c.addresses n.operands
-    → ends_in_label n.operands ≡ false → IsFrameOf c i frame → IsHomesOf c i homes → IsInText c i n
+    → ends_in_label n.operands ≡ false → IsFrameOf c i frame → IsHomesOf c i homes → c.saved ≡ saved → IsInText c i n
     → IsNodeCode R fits c i (control_code C (slice_index c.addresses) frame homes (c.place i) n.op n.operands)
     → CarriesNode R.processor c i n S

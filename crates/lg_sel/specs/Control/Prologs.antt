@@ -21,10 +21,11 @@ use Rattle.lg_carry.specs.Rows.{Rows}
 use Rattle.lg_carry.specs.TextNodes.{IsInText}
 use Rattle.lg_carry.specs.Nodes.Stretches.{StandsAt, behind, PassesIn}
 
--- at most 64 steps from one address to another, in none of which the stack pointer rises, make a frame of so many bytes below that of the caller. Its words hold the return address, the
--- caller's FP and V0 to V2, and of the arguments that have registers those with so many homes; FP and the stack pointer are those of the frame, and no other
--- register of the conventions changes but the link and that of the carry, nor a byte outside of the words of a frame
-pub record Entrance {Q : Type 0} (P : Processor Q) (low high stack size homes_read : ℕ) (q : Q) : Type 0 where
+-- at most 64 steps from one address to another, in none of which the stack pointer rises, make a frame of so many bytes below that of the caller. Its words
+-- hold the return address, the caller's FP and so many of V0 to V2, and of the arguments that have registers those with so many homes; FP and the stack
+-- pointer are those of the frame, and no other register of the conventions changes but the link and that of the carry, nor a byte outside of the words of a
+-- frame
+pub record Entrance {Q : Type 0} (P : Processor Q) (low high stack size homes_read kept : ℕ) (q : Q) : Type 0 where
   pub end : Q
   pub steps : ℕ
   pub passes : PassesIn P true low high steps q end
@@ -36,7 +37,8 @@ pub record Entrance {Q : Type 0} (P : Processor Q) (low high stack size homes_re
   pub back : (address : ℕ) → IsLinked (link_register P.target) (P.seen q).bytes (P.seen q).registers stack address
       → HasWord (P.seen end).bytes (return_word stack) address
   pub caller : HasWord (P.seen end).bytes (frame_pointer stack) ((P.seen q).registers (frame_register P.target))
-  pub saved : (v : ℕ) → v < 3 → HasWord (P.seen end).bytes (saved_word (frame_pointer stack) v) ((P.seen q).registers (portable_register P.target (v + 3)))
+  pub saved : (v : ℕ) → v < kept → v < 3
+      → HasWord (P.seen end).bytes (saved_word (frame_pointer stack) v) ((P.seen q).registers (portable_register P.target (v + 3)))
   pub homes : (j : ℕ) → j < homes_read → j < length (argument_registers P.target)
       → HasWord (P.seen end).bytes (home_word (frame_pointer stack) j) ((P.seen q).registers (slice_index (argument_registers P.target) j))
   pub pointer : (P.seen end).registers (frame_register P.target) ≡ frame_pointer stack
@@ -47,19 +49,20 @@ pub record Entrance {Q : Type 0} (P : Processor Q) (low high stack size homes_re
   pub bytes : (a : ℕ) → (a + 144 < stack) ⊎ (stack ≤ a) → (P.seen end).bytes a ≡ (P.seen q).bytes a
   pub mark : (P.seen end).mark ≡ (P.seen q).mark
 
--- the code of a `prolog` that stands at an address makes the frame, with so many homes, where a call has arrived and there is room for it
-abbrev pub PrologsLead : {Q I : Type 0} → Rows Q I → (I → Type 0) → (ℕ → ℕ → List I) → Type 0
-PrologsLead {Q} R fits code =
+-- the code of a `prolog` that stands at an address makes the frame, with so many homes, and saves so many of V0 to V2, where a call has arrived and there is
+-- room for it
+abbrev pub PrologsLead : {Q I : Type 0} → Rows Q I → (I → Type 0) → ℕ → (ℕ → ℕ → List I) → Type 0
+PrologsLead {Q} R fits saved code =
     (frame homes from stack : ℕ) (q : Q) → IsSeen (R.processor.seen q) → 272 ≤ frame → least_frame + frame ≤ stack → stack ≤ stack_end → stack % 16 ≡ 0
     → (R.processor.seen q).registers (stack_register R.processor.target) ≡ arriving (link_register R.processor.target) stack
     → StandsAt R true fits from (code frame homes)
-    → R.processor.machine.status q ≡ Running → (R.processor.seen q).pc ≡ from → Entrance R.processor from (behind R from (code frame homes)) stack frame homes q
+    → R.processor.machine.status q ≡ Running → (R.processor.seen q).pc ≡ from → Entrance R.processor from (behind R from (code frame homes)) stack frame homes saved q
 
 abbrev pub prolog_node : ℕ → Node
 prolog_node line = record { op = op.Plain plain.Prolog; operands = []; line = line }
 
--- the frame is that of the function that begins at the node, and the homes are those that it reads
-abbrev pub PrologsCarry : {Q I : Type 0} → Rows Q I → (I → Type 0) → (ℕ → ℕ → List I) → Type 0
-PrologsCarry R fits code =
-    (c : Code) (i line : ℕ) (f : Function) (S : ℕ → Bool) → IsInText c i (prolog_node line) → function_here c.shape.functions i ≡ Some f
+-- the frame is that of the function that begins at the node, the homes are those that it reads, and so many are saved as the code saves
+abbrev pub PrologsCarry : {Q I : Type 0} → Rows Q I → (I → Type 0) → ℕ → (ℕ → ℕ → List I) → Type 0
+PrologsCarry R fits saved code =
+    (c : Code) (i line : ℕ) (f : Function) (S : ℕ → Bool) → IsInText c i (prolog_node line) → function_here c.shape.functions i ≡ Some f → c.saved ≡ saved
     → IsNodeCode R fits c i (code (frame_of f) (homes_at c i)) → CarriesNode R.processor c i (prolog_node line) S

@@ -48,9 +48,10 @@ IsReturned (OfNumber v) = v < 2 ^ 64
 IsReturned (OfLabel address) = address < 2 ^ 30
 
 -- ---- what the code does
--- at most 64 steps from one address to another, in none of which the stack pointer falls, leave a frame, whose caller's is this: the run goes on at the return address, or has ended
--- where that is the stop address. V0 to V2 and FP get what the frame saved of them, and the result is in its register; memory stays
-pub record Departure {Q : Type 0} (P : Processor Q) (low high stack back : ℕ) (v : Option ℕ) (q : Q) : Type 0 where
+-- at most 64 steps from one address to another, in none of which the stack pointer falls, leave a frame, whose caller's is this: the run goes on at the
+-- return address, or has ended where that is the stop address. So many of V0 to V2 and FP get what the frame saved of them, and the result is in its
+-- register; memory stays
+pub record Departure {Q : Type 0} (P : Processor Q) (low high stack kept back : ℕ) (v : Option ℕ) (q : Q) : Type 0 where
   pub end : Q
   pub steps : ℕ
   pub passes : PassesIn P true low high steps q end
@@ -62,7 +63,7 @@ pub record Departure {Q : Type 0} (P : Processor Q) (low high stack back : ℕ) 
   pub here : (P.seen end).pc ≡ back
   pub stack_is : (P.seen end).registers (stack_register P.target) ≡ stack
   pub pointer : (x : ℕ) → HasWord (P.seen q).bytes (frame_pointer stack) x → (P.seen end).registers (frame_register P.target) ≡ x
-  pub saved : (j x : ℕ) → j < 3 → HasWord (P.seen q).bytes (saved_word (frame_pointer stack) j) x
+  pub saved : (j x : ℕ) → j < kept → j < 3 → HasWord (P.seen q).bytes (saved_word (frame_pointer stack) j) x
       → (P.seen end).registers (portable_register P.target (j + 3)) ≡ x
   pub result : (x : ℕ) → v ≡ Some x → (P.seen end).registers (result_register P.target) ≡ x
   pub bytes : (P.seen end).bytes ≡ (P.seen q).bytes
@@ -72,14 +73,14 @@ pub record Departure {Q : Type 0} (P : Processor Q) (low high stack back : ℕ) 
 abbrev pub IsBack : {Q I : Type 0} → Rows Q I → ℕ → Type 0
 IsBack R back = IsThere R.is_place back ⊎ (back ≡ stop_address)
 
--- the code of a return that stands at an address leaves the frame
-abbrev pub ReturnsLead : {Q I : Type 0} → Rows Q I → (I → Type 0) → (ℕ → Returned → List I) → Type 0
-ReturnsLead {Q} R fits code =
+-- the code of a return that stands at an address leaves the frame, which saves so many of V0 to V2
+abbrev pub ReturnsLead : {Q I : Type 0} → Rows Q I → (I → Type 0) → ℕ → (ℕ → Returned → List I) → Type 0
+ReturnsLead {Q} R fits saved code =
     (frame from back : ℕ) (r : Returned) (q : Q) → IsReturned r → HasFrame R.processor.target frame (R.processor.seen q) → StandsAt R true fits from (code frame r)
     → IsBack R back
     → HasWord (R.processor.seen q).bytes (return_word ((R.processor.seen q).registers (stack_register R.processor.target) + frame)) back
     → R.processor.machine.status q ≡ Running → (R.processor.seen q).pc ≡ from
-    → Departure R.processor from (behind R from (code frame r)) ((R.processor.seen q).registers (stack_register R.processor.target) + frame) back
+    → Departure R.processor from (behind R from (code frame r)) ((R.processor.seen q).registers (stack_register R.processor.target) + frame) saved back
     (returned_word R.processor.target (R.processor.seen q).registers r) q
 
 -- ---- the nodes
@@ -95,15 +96,16 @@ retr_node a line = record { op = op.Control control.Ret last_operand.Register; o
 abbrev pub reti_node : Operand → ℕ → Node
 reti_node x line = record { op = op.Control control.Ret last_operand.Immediate; operands = x ∷ []; line = line }
 
--- a node that returns is carried by such code
-abbrev pub IsReturnOf : {Q I : Type 0} → Rows Q I → (I → Type 0) → (ℕ → Returned → List I) → Code → ℕ → Node → Returned → Type 0
-IsReturnOf R fits code c i n r =
-    (frame : ℕ) (S : ℕ → Bool) → HasPlaces R c → IsInText c i n → IsFrameOf c i frame → IsNodeCode R fits c i (code frame r) → CarriesNode R.processor c i n S
+-- a node that returns is carried by such code, where the code saves so many
+abbrev pub IsReturnOf : {Q I : Type 0} → Rows Q I → (I → Type 0) → ℕ → (ℕ → Returned → List I) → Code → ℕ → Node → Returned → Type 0
+IsReturnOf R fits saved code c i n r =
+    (frame : ℕ) (S : ℕ → Bool) → HasPlaces R c → IsInText c i n → IsFrameOf c i frame → c.saved ≡ saved → IsNodeCode R fits c i (code frame r)
+    → CarriesNode R.processor c i n S
 
-pub record ReturnsCarry {Q I : Type 0} (R : Rows Q I) (fits : I → Type 0) (code : ℕ → Returned → List I) : Type 0 where
-  pub rets : (c : Code) (i line : ℕ) → IsReturnOf R fits code c i (ret_node line) NoWord
-  pub epilogs : (c : Code) (i line : ℕ) → IsReturnOf R fits code c i (epilog_node line) NoWord
-  pub retrs : (c : Code) (i line : ℕ) (a : Reg) → IsReturnOf R fits code c i (retr_node a line) (OfRegister a)
-  pub retis : (c : Code) (i line : ℕ) (x : Operand) (v : ℕ) → immediate x ≡ Some v → v < 2 ^ 64 → IsReturnOf R fits code c i (reti_node x line) (OfNumber v)
+pub record ReturnsCarry {Q I : Type 0} (R : Rows Q I) (fits : I → Type 0) (saved : ℕ) (code : ℕ → Returned → List I) : Type 0 where
+  pub rets : (c : Code) (i line : ℕ) → IsReturnOf R fits saved code c i (ret_node line) NoWord
+  pub epilogs : (c : Code) (i line : ℕ) → IsReturnOf R fits saved code c i (epilog_node line) NoWord
+  pub retrs : (c : Code) (i line : ℕ) (a : Reg) → IsReturnOf R fits saved code c i (retr_node a line) (OfRegister a)
+  pub retis : (c : Code) (i line : ℕ) (x : Operand) (v : ℕ) → immediate x ≡ Some v → v < 2 ^ 64 → IsReturnOf R fits saved code c i (reti_node x line) (OfNumber v)
   pub labels : (c : Code) (i line : ℕ) (l : Label) → slice_index c.addresses l.0 < 2 ^ 30
-      → IsReturnOf R fits code c i (reti_node (operand.Label l) line) (OfLabel (slice_index c.addresses l.0))
+      → IsReturnOf R fits saved code c i (reti_node (operand.Label l) line) (OfLabel (slice_index c.addresses l.0))

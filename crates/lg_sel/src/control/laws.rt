@@ -96,45 +96,45 @@ pub fn sum_branches_are_carried<T: SumBranches>()
 
 /// A target that returns.
 pub trait Returns: Isa {
-    /// The code of a return, in a frame of so many bytes, with a word or none.
-    ghost ret: { ℕ → Returned → List Self.Instruction };
+    /// The code of a return that restores so many of V0 to V2, in a frame of so many bytes, with a word or none.
+    ghost ret: { ℕ → ℕ → Returned → List Self.Instruction };
 
     /// It leaves the frame.
-    ghost returns_lead: { ReturnsLead Self.rows Self.fits ret };
+    ghost returns_lead: { (saved : ℕ) → ReturnsLead Self.rows Self.fits saved (ret saved) };
 }
 
 /// Returns are carried by such code.
 pub fn returns_are_carried<T: Returns>()
-    ensures { ReturnsCarry T.rows T.fits T.ret }
+    ensures { (saved : ℕ) → ReturnsCarry T.rows T.fits saved (T.ret saved) }
 {}
 
 /// A target that makes frames.
 pub trait Prologs: Isa {
-    /// The code of a `prolog` that makes a frame of so many bytes, and stores so many homes.
-    ghost prolog: { ℕ → ℕ → List Self.Instruction };
+    /// The code of a `prolog` that saves so many of V0 to V2, makes a frame of so many bytes, and stores so many homes.
+    ghost prolog: { ℕ → ℕ → ℕ → List Self.Instruction };
 
     /// It makes the frame, where a call has arrived.
-    ghost prologs_lead: { PrologsLead Self.rows Self.fits prolog };
+    ghost prologs_lead: { (saved : ℕ) → PrologsLead Self.rows Self.fits saved (prolog saved) };
 }
 
 /// A `prolog` is carried by such code.
 pub fn prologs_are_carried<T: Prologs>()
-    ensures { PrologsCarry T.rows T.fits T.prolog }
+    ensures { (saved : ℕ) → PrologsCarry T.rows T.fits saved (T.prolog saved) }
 {}
 
 /// A target with the code of all these nodes.
 pub trait HasControls: Isa {
-    /// The code of each family.
-    ghost codes: { Codes Self.Instruction };
+    /// The code of each family, where frames save so many of V0 to V2.
+    ghost codes: { ℕ → Codes Self.Instruction };
 
     /// Whether registers are as a host function asks for them, besides the arguments.
     ghost ready: { HostName → (ℕ → ℕ) → Bool };
 
     /// What it does wherever it stands.
-    ghost controls: { Controls Self.rows Self.scratch Self.fits ready codes };
+    ghost controls: { (saved : ℕ) → Controls Self.rows Self.scratch Self.fits ready saved (codes saved) };
 }
 
 /// Each node that branches, jumps, calls or returns, `prolog`, `.align` and each node without code is carried by its code.
 pub fn control_nodes_are_carried<T: HasControls>()
-    ensures { ControlNodesCarry T.rows T.fits T.codes }
+    ensures { (saved : ℕ) → ControlNodesCarry T.rows T.fits saved (T.codes saved) }
 {}

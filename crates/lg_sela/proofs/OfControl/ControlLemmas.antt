@@ -92,48 +92,48 @@ compared-is o (operand.Host name) = refl
 compared-is o (operand.Label l) = refl
 compared-is o (operand.Slot k) = refl
 
-module _ (r : Reach) (to : ℕ → ℕ) (frame homes at : ℕ) where
-  branches : (o : Condition) (xs : List Operand) → settled to at (branch_items r o xs) ≡ branch_of (a64_control r) to frame at o xs
+module _ (r : Reach) (to : ℕ → ℕ) (frame homes saved at : ℕ) where
+  branches : (o : Condition) (xs : List Operand) → settled to at (branch_items r o xs) ≡ branch_of (a64_control saved r) to frame at o xs
   branches o (operand.Label l ∷ operand.Reg a ∷ x ∷ []) =
       let sets : Instr = comparing o (register_of Aarch64 a) x in
       ap (λ ys. settled to at (ys ++ branch_if_items r sets (taken o) l)) (compared-is o x) ∙ branch-settled r to at (compared_code o x) sets (taken o) l
   branches o xs = refl
 
-  sum-branches : (o : BranchSumOp) (xs : List Operand) → settled to at (sum_items r o xs) ≡ sum_branch_of (a64_control r) to frame at o xs
+  sum-branches : (o : BranchSumOp) (xs : List Operand) → settled to at (sum_items r o xs) ≡ sum_branch_of (a64_control saved r) to frame at o xs
   sum-branches o (operand.Label l ∷ operand.Reg a ∷ x ∷ []) =
       let sets : Instr = sum_instruction o (register_of Aarch64 a) (second_register x) in
       ap (λ ys. settled to at (ys ++ branch_if_items r sets (sum_taken o) l)) (second-is x) ∙ branch-settled r to at (second_code x) sets (sum_taken o) l
   sum-branches o xs = refl
 
-  jumps : (xs : List Operand) → settled to at (jump_items xs) ≡ jump_of (a64_control r) to at xs
+  jumps : (xs : List Operand) → settled to at (jump_items xs) ≡ jump_of (a64_control saved r) to at xs
   jumps (operand.Label l ∷ []) = refl
   jumps xs = refl
 
-  calls : (xs : List Operand) → settled to at (call_items xs) ≡ call_of (a64_control r) to at xs
+  calls : (xs : List Operand) → settled to at (call_items xs) ≡ call_of (a64_control saved r) to at xs
   calls (operand.Label l ∷ []) = refl
   calls (operand.Host name ∷ []) = ones-settled to at (number_code link (host_address name)) (instr.BranchReg Blr link ∷ [])
   calls xs = refl
 
-  register-jumps : (xs : List Operand) → settled to at (register_leap_items Br xs) ≡ target_control.register_leap_of (a64_control r).register_jump frame xs
+  register-jumps : (xs : List Operand) → settled to at (register_leap_items Br xs) ≡ target_control.register_leap_of (a64_control saved r).register_jump frame xs
   register-jumps (operand.Reg a ∷ []) = refl
   register-jumps xs = refl
 
-  register-calls : (xs : List Operand) → settled to at (register_leap_items Blr xs) ≡ target_control.register_leap_of (a64_control r).register_call frame xs
+  register-calls : (xs : List Operand) → settled to at (register_leap_items Blr xs) ≡ target_control.register_leap_of (a64_control saved r).register_call frame xs
   register-calls (operand.Reg a ∷ []) = refl
   register-calls xs = refl
 
-  results : (x : Operand) → settled to at (result_items x ++ ones (return_code frame)) ≡ (a64_control r).ret frame (returned_of to x)
-  results (operand.Reg a) = ones-settled to at (instr.Reg Orr result zero_register (register_of Aarch64 a) ∷ []) (return_code frame)
-  results (operand.Number v) = ones-settled to at (number_code result v) (return_code frame)
-  results (operand.Host name) = ones-settled to at (number_code result (host_address name)) (return_code frame)
-  results (operand.Label l) = ap (λ is. result_code (OfLabel (to l.0)) ++ is) (settled-ones to (at + 8) (return_code frame))
-  results (operand.Slot k) = settled-ones to at (return_code frame)
+  results : (x : Operand) → settled to at (result_items x ++ ones (return_code saved frame)) ≡ (a64_control saved r).ret frame (returned_of to x)
+  results (operand.Reg a) = ones-settled to at (instr.Reg Orr result zero_register (register_of Aarch64 a) ∷ []) (return_code saved frame)
+  results (operand.Number v) = ones-settled to at (number_code result v) (return_code saved frame)
+  results (operand.Host name) = ones-settled to at (number_code result (host_address name)) (return_code saved frame)
+  results (operand.Label l) = ap (λ is. result_code (OfLabel (to l.0)) ++ is) (settled-ones to (at + 8) (return_code saved frame))
+  results (operand.Slot k) = settled-ones to at (return_code saved frame)
 
-  returns : (xs : List Operand) → settled to at (ret_items frame xs) ≡ return_of (a64_control r) to frame xs
+  returns : (xs : List Operand) → settled to at (ret_items frame saved xs) ≡ return_of (a64_control saved r) to frame xs
   returns (x ∷ []) = results x
   returns xs = refl
 
-  leaps : (o : ControlOp) (last : LastOperand) (xs : List Operand) → settled to at (leap_items frame o last xs) ≡ leap_of (a64_control r) to frame at o last xs
+  leaps : (o : ControlOp) (last : LastOperand) (xs : List Operand) → settled to at (leap_items frame saved o last xs) ≡ leap_of (a64_control saved r) to frame at o last xs
   leaps control.Jmp last_operand.Immediate xs = jumps xs
   leaps control.Jmp last_operand.Register xs = register-jumps xs
   leaps control.Call last_operand.Immediate xs = calls xs
@@ -143,18 +143,18 @@ module _ (r : Reach) (to : ℕ → ℕ) (frame homes at : ℕ) where
   leaps control.Ret last xs = returns xs
   leaps o last xs = refl
 
-  alignments : (xs : List Operand) → settled to at (align_items at xs) ≡ align_of (a64_control r) at xs
+  alignments : (xs : List Operand) → settled to at (align_items at xs) ≡ align_of (a64_control saved r) at xs
   alignments (operand.Number n ∷ []) = settled-ones to at (align_code at n)
   alignments xs = refl
 
-  plains : (o : PlainOp) (xs : List Operand) → settled to at (plain_items o xs frame homes at) ≡ plain_of (a64_control r) frame homes at o xs
-  plains plain.Prolog xs = settled-ones to at (prolog_code frame homes)
-  plains plain.Epilog xs = settled-ones to at (return_code frame)
-  plains plain.Ret xs = settled-ones to at (return_code frame)
+  plains : (o : PlainOp) (xs : List Operand) → settled to at (plain_items o xs frame homes saved at) ≡ plain_of (a64_control saved r) frame homes at o xs
+  plains plain.Prolog xs = settled-ones to at (prolog_code saved frame homes)
+  plains plain.Epilog xs = settled-ones to at (return_code saved frame)
+  plains plain.Ret xs = settled-ones to at (return_code saved frame)
   plains plain.Align xs = alignments xs
   plains o xs = refl
 
-  items-are-code : (o : Op) (xs : List Operand) → settled to at (control_items r o xs frame homes at) ≡ control_code (a64_control r) to frame homes at o xs
+  items-are-code : (o : Op) (xs : List Operand) → settled to at (control_items r o xs frame homes saved at) ≡ control_code (a64_control saved r) to frame homes at o xs
   items-are-code (op.Branch o last) xs = branches o xs
   items-are-code (op.BranchSum o last) xs = sum-branches o xs
   items-are-code (op.Control o last) xs = leaps o last xs
@@ -162,7 +162,7 @@ module _ (r : Reach) (to : ℕ → ℕ) (frame homes at : ℕ) where
   items-are-code o xs = refl
 
 pub control-nodes-carry : ControlNodesCarry
-control-nodes-carry r code trash c i n frame homes S h w v e is-frame is-homes t k =
-    let same = items-are-code r (slice_index c.addresses) frame homes (c.place i) n.op n.operands in
-    target_lemmas.control-nodes-carry (a64_rows code trash) a64_scratch IsInstr a64_ready (a64_control r) (is-target r code trash k.small k.bytes k.word) c i n frame homes S h
-    (has-places code trash c w) v e is-frame is-homes t (subst (IsNodeCode (a64_rows code trash) IsInstr c i) same k.node)
+control-nodes-carry r code trash c i n frame homes saved S h w v e is-frame is-homes is-saved t k =
+    let same = items-are-code r (slice_index c.addresses) frame homes saved (c.place i) n.op n.operands in
+    target_lemmas.control-nodes-carry (a64_rows code trash) a64_scratch IsInstr a64_ready saved (a64_control saved r) (is-target saved r code trash k.small k.bytes k.word) c i n frame homes S h
+    (has-places code trash c w) v e is-frame is-homes is-saved t (subst (IsNodeCode (a64_rows code trash) IsInstr c i) same k.node)

@@ -1,6 +1,6 @@
 -- The items of the nodes can be appended to a buffer.
-use Rattle.std.proofs.Common.{◌≡◌, ℕ, zero, suc, ◌+◌, ◌*◌, ◌^◌, ◌<◌, ◌≤◌, Bool, true, false, List, [], ◌∷◌, ◌++◌, refl, sym, ap, subst, arith, length}
-use Rattle.std.specs.Prelude.{◌&&◌, ◌||◌, ◌-◌, ◌/◌, ◌%◌, nat_lt, if◌then◌else◌}
+use Rattle.std.proofs.Common.{◌≡◌, ℕ, zero, suc, ◌+◌, ◌*◌, ◌^◌, ◌<◌, ◌≤◌, Bool, true, false, List, [], ◌∷◌, ◌++◌, refl, sym, ap, subst, arith, length, length-append}
+use Rattle.std.specs.Prelude.{◌||◌, ◌-◌, ◌/◌, ◌%◌, nat_lt, take, if◌then◌else◌}
 use Rattle.std.specs.List.{list_all}
 use Rattle.std.proofs.lemmas.Bool.{and_parts}
 use Rattle.lg_base.specs.Conventions.{argument_registers}
@@ -55,9 +55,9 @@ use Rattle.lg_carry.specs.Nodes.Operands.{IsGiven, AreGiven}
 use Rattle.lg_sela.specs.Control.ControlFits.{AreEmitted, ControlItemsFit}
 use Rattle.lg_sela.specs.Control.ControlItems.{second_register, second_items, comparing, branch_if_items, register_leap_items, control_items, is_control}
 use Rattle.lg_sela.specs.Control.ControlLaws.{ends_in_label}
-use Rattle.lg_sela.specs.Control.Prologs.{stored_registers, stores_below, fall_code, framed_code, is_near, prolog_code}
+use Rattle.lg_sela.specs.Control.Prologs.{first_registers, home_registers, stores_below, fall_code, framed_code, is_near, prolog_code}
 use Rattle.lg_sela.specs.Control.RegisterLeaps.{register_leap_code}
-use Rattle.lg_sela.specs.Control.Returns.{result, near_return, far_return, return_code}
+use Rattle.lg_sela.specs.Control.Returns.{result, kept_loads, restores, near_return, far_return, leaving_code, return_code}
 use Rattle.lg_sela.specs.Control.SumBranches.{sum_instruction, sum_taken}
 use Rattle.lg_sela.specs.Control.TwoWays.{second_code, compared_code}
 use Rattle.lg_sela.proofs.OfControl.ControlLemmas.{second-is, compared-is}
@@ -115,49 +115,37 @@ sum-fits sum.FitAddU a b ha hb = (ha, ha, hb)
 sum-fits sum.FitSub a b ha hb = (ha, ha, hb)
 sum-fits sum.FitSubU a b ha hb = (ha, ha, hb)
 
-far-return-fits : AreItems (ones far_return)
-far-return-fits = (
+taken-fit : (n : ℕ) (is : List Instr) → AreItems (ones is) → AreItems (ones (take n is))
+taken-fit zero is h = tt
+taken-fit (suc n) [] h = tt
+taken-fit (suc n) (i ∷ is) h = (h.0, taken-fit n is h.1)
+
+restores-fit : (saved : ℕ) → AreItems (ones (restores saved))
+restores-fit saved = taken-fit saved kept_loads (
   (omega arith, omega arith, omega arith, omega arith),
-  (
-    (omega arith, omega arith, omega arith, omega arith),
-    (
-      (omega arith, omega arith, omega arith, omega arith),
-      (
-        (omega arith, omega arith, omega arith, omega arith),
-        ((omega arith, omega arith, omega arith), ((omega arith, omega arith, omega arith, omega arith), ((omega arith, omega arith, omega arith), (omega arith, tt)))),
-      ),
-    ),
-  ),
+  ((omega arith, omega arith, omega arith, omega arith), ((omega arith, omega arith, omega arith, omega arith), tt)),
 )
 
-near-return-fits : (frame : ℕ) → frame < 4096 → AreItems (ones (near_return frame))
-near-return-fits frame small = (
-  (omega arith, omega arith, omega arith, omega arith),
-  (
-    (omega arith, omega arith, omega arith, omega arith),
-    (
-      (omega arith, omega arith, omega arith, omega arith),
-      (
-        (omega arith, omega arith, omega arith, omega arith),
-        ((omega arith, omega arith, omega arith, omega arith), ((omega arith, omega arith, omega (arith, small)), (omega arith, tt))),
-      ),
-    ),
-  ),
-)
-
-return-fits : (frame : ℕ) → AreItems (ones (return_code frame))
-return-fits frame = by (nat_lt frame 4096) refl
+back-fits : (frame : ℕ) → AreItems (ones (leaving_code frame))
+back-fits frame = ((omega arith, omega arith, omega arith, omega arith), by (nat_lt frame 4096) refl)
   where
     by : (b : Bool) → nat_lt frame 4096 ≡ b → AreItems (ones (if b then near_return frame else far_return))
-    by true e = near-return-fits frame (grind (arith, e))
-    by false e = far-return-fits
+    by true e = let small : frame < 4096 = grind (arith, e) in (
+      (omega arith, omega arith, omega arith, omega arith),
+      ((omega arith, omega arith, omega (arith, small)), (omega arith, tt)),
+    )
+    by false e = (
+      (omega arith, omega arith, omega arith),
+      ((omega arith, omega arith, omega arith, omega arith), ((omega arith, omega arith, omega arith), (omega arith, tt))),
+    )
 
-return-some : (frame : ℕ) → 0 < length (return_code frame)
-return-some frame = by (nat_lt frame 4096)
-  where
-    by : (b : Bool) → 0 < length (if b then near_return frame else far_return)
-    by true = omega arith
-    by false = omega arith
+return-fits : (saved frame : ℕ) → AreItems (ones (return_code saved frame))
+return-fits saved frame =
+    subst AreItems (sym (ones-append (restores saved) (leaving_code frame)))
+    (items-append (ones (restores saved)) (ones (leaving_code frame)) (restores-fit saved) (back-fits frame))
+
+return-some : (saved frame : ℕ) → 0 < length (return_code saved frame)
+return-some saved frame = let e = length-append (restores saved) (leaving_code frame) in omega (arith, e)
 
 idle-fits : (k : ℕ) → AreItems (ones (idle k))
 idle-fits zero = tt
@@ -172,8 +160,11 @@ all-below rs = list_all (λ r. nat_lt r 32) rs
 below : (r : ℕ) → nat_lt r 32 ≡ true → r < 32
 below r h = grind (arith, h)
 
-stored-below : (homes : ℕ) → all-below (stored_registers homes) ≡ true
-stored-below homes = take-all (λ r. nat_lt r 32) (argument_registers Aarch64) homes refl
+firsts-below : (saved : ℕ) → all-below (first_registers saved) ≡ true
+firsts-below saved = take-all (λ r. nat_lt r 32) (19 ∷ 20 ∷ 21 ∷ []) saved refl
+
+homes-below : (homes : ℕ) → all-below (home_registers homes) ≡ true
+homes-below homes = take-all (λ r. nat_lt r 32) (argument_registers Aarch64) homes refl
 
 stores-fit : (first : ℕ) (rs : List ℕ) (k : ℕ) → first ≤ 2048 → all-below rs ≡ true → AreItems (ones (stores_below first rs k))
 stores-fit first [] k near h = tt
@@ -192,26 +183,30 @@ fall-fits size = by (nat_lt size 4096) refl
     by true e = let small = twelve-bits size e in ((omega arith, omega arith, omega (arith, small)), tt)
     by false e = ((omega arith, omega arith, omega arith), ((omega arith, omega arith, omega arith), tt))
 
-framed-fits : (first homes : ℕ) (rest : List Instr) → first ≤ 2048 → AreItems (ones rest) → AreItems (ones (framed_code first homes rest))
-framed-fits first homes rest near h =
-    let end = instr.Imm Addi frame_pointer stack_pointer (first - 16) false ∷ rest in (
+framed-fits : (saved first homes : ℕ) (rest : List Instr) → first ≤ 2048 → AreItems (ones rest) → AreItems (ones (framed_code saved first homes rest))
+framed-fits saved first homes rest near h =
+    let end : List Instr = instr.Imm Addi frame_pointer stack_pointer (first - 16) false ∷ rest in
+    let front : List Instr = stores_below first (first_registers saved) 0 in
+    let mid : List Instr = stores_below first (home_registers homes) 5 in (
       (omega arith, omega arith, omega (arith, near)),
-      subst AreItems (sym (ones-append (stores_below first (stored_registers homes) 0) end))
-          (items-append (ones (stores_below first (stored_registers homes) 0)) (ones end) (stores-fit first (stored_registers homes) 0 near (stored-below homes))
-          ((omega arith, omega arith, omega (arith, near)), h)),
+      subst AreItems (sym (ones-append front (mid ++ end)))
+          (items-append (ones front) (ones (mid ++ end)) (stores-fit first (first_registers saved) 0 near (firsts-below saved))
+          (subst AreItems (sym (ones-append mid end))
+          (items-append (ones mid) (ones end) (stores-fit first (home_registers homes) 5 near (homes-below homes)) ((omega arith, omega arith, omega (arith, near)), h)))),
     )
 
-prolog-fits : (size homes : ℕ) → AreItems (ones (prolog_code size homes))
-prolog-fits size homes = by (is_near size) refl
+prolog-fits : (saved size homes : ℕ) → AreItems (ones (prolog_code saved size homes))
+prolog-fits saved size homes = by (is_near size) refl
   where
-    by : (b : Bool) → is_near size ≡ b → AreItems (ones (if b then framed_code size homes [] else framed_code 112 homes (fall_code (size - 112))))
-    by true e = framed-fits size homes [] (near-size size e).0 tt
-    by false e = framed-fits 112 homes (fall_code (size - 112)) (omega arith) (fall-fits (size - 112))
+    by : (b : Bool) → is_near size ≡ b
+        → AreItems (ones (if b then framed_code saved size homes [] else framed_code saved 112 homes (fall_code (size - 112))))
+    by true e = framed-fits saved size homes [] (near-size size e).0 tt
+    by false e = framed-fits saved 112 homes (fall_code (size - 112)) (omega arith) (fall-fits (size - 112))
 
 -- ---- the nodes
-module _ (r : Reach) (labels frame homes at : ℕ) where
+module _ (r : Reach) (labels frame homes saved at : ℕ) where
   abbrev items-of : Op → List Operand → List Item
-  items-of o xs = control_items r o xs frame homes at
+  items-of o xs = control_items r o xs frame homes saved at
 
   -- the second operand is put into its register
   second-fits : (x : Operand) → IsGiven labels x → AreItems (ones (second_code x))
@@ -301,21 +296,21 @@ module _ (r : Reach) (labels frame homes at : ℕ) where
   register-leap o (x ∷ y ∷ ys) h = absurd (never (admits form.Read x) h)
   register-leap o xs h = absurd (differ h)
 
-  returns : AreEmitted labels true (ones (return_code frame))
-  returns = plain-emitted labels true (return_code frame) (return-fits frame) (λ e. return-some frame)
+  returns : AreEmitted labels true (ones (return_code saved frame))
+  returns = plain-emitted labels true (return_code saved frame) (return-fits saved frame) (λ e. return-some saved frame)
 
   ret : (last : LastOperand) (xs : List Operand) → admit (forms_of (op.Control control.Ret last)) xs ≡ true → AreGiven labels xs
       → AreEmitted labels true (items-of (op.Control control.Ret last) xs)
   ret last_operand.Register (operand.Reg a ∷ []) h v =
-      in-front labels true (instr.Reg Orr result zero_register (register_of Aarch64 a) ∷ []) (ones (return_code frame)) ((omega arith, omega arith, first-small a), tt) returns
+      in-front labels true (instr.Reg Orr result zero_register (register_of Aarch64 a) ∷ []) (ones (return_code saved frame)) ((omega arith, omega arith, first-small a), tt) returns
   ret last_operand.Immediate (operand.Number x ∷ []) h v =
-      in-front labels true (number_code result x) (ones (return_code frame)) (number-fits result x (omega arith) v.0) returns
+      in-front labels true (number_code result x) (ones (return_code saved frame)) (number-fits result x (omega arith) v.0) returns
   ret last_operand.Immediate (operand.Host name ∷ []) h v =
-      in-front labels true (number_code result (host_address name)) (ones (return_code frame)) (number-fits result (host_address name) (omega arith) (host-small name)) returns
+      in-front labels true (number_code result (host_address name)) (ones (return_code saved frame)) (number-fits result (host_address name) (omega arith) (host-small name)) returns
   ret last_operand.Immediate (operand.Label l ∷ []) h v = record {
-    items = (omega arith, return-fits frame);
+    items = (omega arith, return-fits saved frame);
     labels = (v.0, returns.labels);
-    one_fix = λ place. let e = ap length (fixes-ones (place + 4 * 2) (return_code frame)) in omega (arith, e);
+    one_fix = λ place. let e = ap length (fixes-ones (place + 4 * 2) (return_code saved frame)) in omega (arith, e);
     some = λ e. omega arith;
   }
   ret last_operand.Register (x ∷ y ∷ ys) h v = absurd (never (admits form.Read x) h)
@@ -341,7 +336,7 @@ module _ (r : Reach) (labels frame homes at : ℕ) where
   by-op (op.Control control.Call last_operand.Immediate) xs c h v e = call xs h v
   by-op (op.Control control.Finish last_operand.Immediate) xs c h v e = call xs h v
   by-op (op.Control control.Ret last) xs c h v e = ret last xs h v
-  by-op (op.Plain plain.Prolog) xs c h v e = plain-emitted labels false (prolog_code frame homes) (prolog-fits frame homes) (λ z. absurd (differ z))
+  by-op (op.Plain plain.Prolog) xs c h v e = plain-emitted labels false (prolog_code saved frame homes) (prolog-fits saved frame homes) (λ z. absurd (differ z))
   by-op (op.Plain plain.Epilog) xs c h v e = returns
   by-op (op.Plain plain.Ret) xs c h v e = returns
   by-op (op.Plain plain.Align) xs c h v e = align xs h
@@ -353,4 +348,4 @@ module _ (r : Reach) (labels frame homes at : ℕ) where
   by-op o xs c h v e = absurd (differ c)
 
 pub control-items-fit : ControlItemsFit
-control-items-fit r n labels frame homes at c h v e = by-op r labels frame homes at n.op n.operands c h.forms v e
+control-items-fit r n labels frame homes saved at c h v e = by-op r labels frame homes saved at n.op n.operands c h.forms v e

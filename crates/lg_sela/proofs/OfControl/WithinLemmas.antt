@@ -1,6 +1,6 @@
 -- No item of a node that branches, jumps, calls or returns, of `prolog` or `.align` writes a register that is outside of the conventions.
-use Rattle.std.proofs.Common.{ℕ, zero, suc, Bool, true, List, [], ◌∷◌, refl, false}
-use Rattle.std.specs.Prelude.{◌-◌, ◌/◌, ◌%◌, false, nat_lt, if◌then◌else◌}
+use Rattle.std.proofs.Common.{ℕ, zero, suc, Bool, true, List, [], ◌∷◌, ◌++◌, refl, false}
+use Rattle.std.specs.Prelude.{◌-◌, ◌/◌, ◌%◌, false, nat_lt, take, if◌then◌else◌}
 use Rattle.lg_carry.specs.Outside.{moves_stack}
 use Rattle.lg_base.specs.HostNames.{host_address}
 use Rattle.lg_base.specs.declared.target.Target.TheVariants.{Aarch64}
@@ -31,7 +31,7 @@ use Rattle.lg_sela_values.specs.Processor.Destinations.{WritesWithin}
 use Rattle.lg_sela_values.specs.Processor.Numbers.{number_code}
 use Rattle.lg_carry.specs.Nodes.Immediates.{immediate}
 use Rattle.lg_sela_values.specs.Items.{ones, StayWithin}
-use Rattle.lg_sela_values.proofs.WithinLemmas.{In, portable, Within, join, stay-append, stay-ones, number, Moving, moving-join, moving-append, moving-ones, items-moving, flagged}
+use Rattle.lg_sela_values.proofs.WithinLemmas.{In, portable, Within, stay-append, stay-ones, number, Moving, moving-join, moving-append, moving-ones, items-moving, flagged}
 use Rattle.lg_sel.specs.declared.reach.Reach.{Reach}
 use Rattle.lg_sel.specs.declared.reach.Reach.TheVariants.{Short, Near, Far}
 use Rattle.lg_sela.specs.Control.Alignments.{padding, idle, align_code}
@@ -41,8 +41,8 @@ use Rattle.lg_sela.specs.Control.Branches.{comparison, is_held, number_compariso
 use Rattle.lg_sela.specs.Control.ControlFits.{ControlItemsStay}
 use Rattle.lg_sela.specs.Control.ControlItems.{second_register, word_items, second_items, compared_items, comparing, leads_items, branch_items, sum_items, jump_items, call_items, result_items, ret_items}
 use Rattle.lg_sela.specs.Control.ControlItems.{register_leap_items, leap_items, align_items, plain_items, control_items}
-use Rattle.lg_sela.specs.Control.Prologs.{stored_registers, stores_below, fall_code, framed_code, is_near, prolog_code}
-use Rattle.lg_sela.specs.Control.Returns.{result, near_return, far_return, return_code}
+use Rattle.lg_sela.specs.Control.Prologs.{first_registers, home_registers, stores_below, fall_code, framed_code, is_near, prolog_code}
+use Rattle.lg_sela.specs.Control.Returns.{result, kept_loads, restores, near_return, far_return, leaving_code, return_code}
 use Rattle.lg_sela.specs.Control.SumBranches.{sum_instruction}
 
 -- ---- branches, jumps, calls and returns
@@ -136,16 +136,22 @@ results (operand.Number v) = word result (operand.Number v) refl
 results (operand.Host name) = word result (operand.Host name) refl
 results (operand.Slot k) = word result (operand.Slot k) refl
 
-returns : (frame : ℕ) → StayWithin true (ones (return_code frame))
-returns frame = by (nat_lt frame 4096)
-  where
-    by : (b : Bool) → StayWithin true (ones (if b then near_return frame else far_return))
-    by true = (refl, (refl, (refl, (refl, (refl, (refl, (tt, tt)))))))
-    by false = (refl, (refl, (refl, (refl, (refl, (refl, (refl, (tt, tt))))))))
+taken : (n : ℕ) (is : List Instr) → Moving is → Moving (take n is)
+taken zero is h = tt
+taken (suc n) [] h = tt
+taken (suc n) (i ∷ is) h = (h.0, taken n is h.1)
 
-returned : (frame : ℕ) (xs : List Operand) → StayWithin true (ret_items frame xs)
-returned frame (x ∷ []) = moving-append (result_items x) (ones (return_code frame)) (items-moving (result_items x) (results x)) (returns frame)
-returned frame xs = tt
+returns : (saved frame : ℕ) → StayWithin true (ones (return_code saved frame))
+returns saved frame =
+    moving-ones (return_code saved frame) (moving-join (restores saved) (leaving_code frame) (taken saved kept_loads (refl, (refl, (refl, tt)))) (refl, by (nat_lt frame 4096)))
+  where
+    by : (b : Bool) → Moving (if b then near_return frame else far_return)
+    by true = (refl, (refl, (tt, tt)))
+    by false = (refl, (refl, (refl, (tt, tt))))
+
+returned : (frame saved : ℕ) (xs : List Operand) → StayWithin true (ret_items frame saved xs)
+returned frame saved (x ∷ []) = moving-append (result_items x) (ones (return_code saved frame)) (items-moving (result_items x) (results x)) (returns saved frame)
+returned frame saved xs = tt
 
 leapt : (o : BranchRegOp) (xs : List Operand) → StayWithin false (register_leap_items o xs)
 leapt Br (operand.Reg a ∷ []) = (tt, tt)
@@ -153,15 +159,15 @@ leapt Blr (operand.Reg a ∷ []) = (refl, tt)
 leapt Ret (operand.Reg a ∷ []) = (tt, tt)
 leapt o xs = tt
 
-leaps : (frame : ℕ) (o : ControlOp) (last : LastOperand) (xs : List Operand) → StayWithin (moves_stack Aarch64 (op.Control o last)) (leap_items frame o last xs)
-leaps frame control.Jmp last_operand.Immediate xs = jumped xs
-leaps frame control.Jmp last_operand.Register xs = leapt Br xs
-leaps frame control.Call last_operand.Immediate xs = called xs
-leaps frame control.Call last_operand.Register xs = leapt Blr xs
-leaps frame control.Finish last_operand.Immediate xs = called xs
-leaps frame control.Finish last_operand.Register xs = leapt Blr xs
-leaps frame control.Ret last xs = returned frame xs
-leaps frame control.Pusharg last xs = tt
+leaps : (frame saved : ℕ) (o : ControlOp) (last : LastOperand) (xs : List Operand) → StayWithin (moves_stack Aarch64 (op.Control o last)) (leap_items frame saved o last xs)
+leaps frame saved control.Jmp last_operand.Immediate xs = jumped xs
+leaps frame saved control.Jmp last_operand.Register xs = leapt Br xs
+leaps frame saved control.Call last_operand.Immediate xs = called xs
+leaps frame saved control.Call last_operand.Register xs = leapt Blr xs
+leaps frame saved control.Finish last_operand.Immediate xs = called xs
+leaps frame saved control.Finish last_operand.Register xs = leapt Blr xs
+leaps frame saved control.Ret last xs = returned frame saved xs
+leaps frame saved control.Pusharg last xs = tt
 
 -- ---- the others
 idles : (k : ℕ) → Within (idle k)
@@ -184,33 +190,34 @@ falls n = by (nat_lt n 4096)
     by true = (refl, tt)
     by false = (refl, (refl, tt))
 
-begins : (frame homes : ℕ) → Moving (prolog_code frame homes)
-begins frame homes = by (is_near frame)
+begins : (saved frame homes : ℕ) → Moving (prolog_code saved frame homes)
+begins saved frame homes = by (is_near frame)
   where
-    framed : (first : ℕ) (rest : List Instr) → Moving rest → Moving (framed_code first homes rest)
-    framed first rest h = (
-      refl,
-      moving-join (stores_below first (stored_registers homes) 0) (instr.Imm Addi frame_pointer stack_pointer (first - 16) false ∷ rest)
-          (below first (stored_registers homes) 0) (refl, h),
-    )
+    framed : (first : ℕ) (rest : List Instr) → Moving rest → Moving (framed_code saved first homes rest)
+    framed first rest h =
+        let end : List Instr = instr.Imm Addi frame_pointer stack_pointer (first - 16) false ∷ rest in (
+          refl,
+          moving-join (stores_below first (first_registers saved) 0) (stores_below first (home_registers homes) 5 ++ end) (below first (first_registers saved) 0)
+              (moving-join (stores_below first (home_registers homes) 5) end (below first (home_registers homes) 5) (refl, h)),
+        )
 
-    by : (b : Bool) → Moving (if b then framed_code frame homes [] else framed_code 112 homes (fall_code (frame - 112)))
+    by : (b : Bool) → Moving (if b then framed_code saved frame homes [] else framed_code saved 112 homes (fall_code (frame - 112)))
     by true = framed frame [] tt
     by false = framed 112 (fall_code (frame - 112)) (falls (frame - 112))
 
-plainly : (o : PlainOp) (xs : List Operand) (frame homes at : ℕ) → StayWithin (moves_stack Aarch64 (op.Plain o)) (plain_items o xs frame homes at)
-plainly plain.Prolog xs frame homes at = moving-ones (prolog_code frame homes) (begins frame homes)
-plainly plain.Epilog xs frame homes at = returns frame
-plainly plain.Ret xs frame homes at = returns frame
-plainly plain.Align xs frame homes at = aligned at xs
-plainly o xs frame homes at = tt
+plainly : (o : PlainOp) (xs : List Operand) (frame homes saved at : ℕ) → StayWithin (moves_stack Aarch64 (op.Plain o)) (plain_items o xs frame homes saved at)
+plainly plain.Prolog xs frame homes saved at = moving-ones (prolog_code saved frame homes) (begins saved frame homes)
+plainly plain.Epilog xs frame homes saved at = returns saved frame
+plainly plain.Ret xs frame homes saved at = returns saved frame
+plainly plain.Align xs frame homes saved at = aligned at xs
+plainly o xs frame homes saved at = tt
 
-stay : (r : Reach) (o : Op) (xs : List Operand) (frame homes at : ℕ) → StayWithin (moves_stack Aarch64 o) (control_items r o xs frame homes at)
-stay r (op.Branch o last) xs frame homes at = branched r o xs
-stay r (op.BranchSum o last) xs frame homes at = summed r o xs
-stay r (op.Control o last) xs frame homes at = leaps frame o last xs
-stay r (op.Plain o) xs frame homes at = plainly o xs frame homes at
-stay r o xs frame homes at = tt
+stay : (r : Reach) (o : Op) (xs : List Operand) (frame homes saved at : ℕ) → StayWithin (moves_stack Aarch64 o) (control_items r o xs frame homes saved at)
+stay r (op.Branch o last) xs frame homes saved at = branched r o xs
+stay r (op.BranchSum o last) xs frame homes saved at = summed r o xs
+stay r (op.Control o last) xs frame homes saved at = leaps frame saved o last xs
+stay r (op.Plain o) xs frame homes saved at = plainly o xs frame homes saved at
+stay r o xs frame homes saved at = tt
 
 pub control-items-stay : ControlItemsStay
-control-items-stay r n frame homes at = stay r n.op n.operands frame homes at
+control-items-stay r n frame homes saved at = stay r n.op n.operands frame homes saved at

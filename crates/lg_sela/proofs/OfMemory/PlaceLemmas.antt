@@ -2,6 +2,7 @@
 use Rattle.std.proofs.Common.{◌≡◌, ◌≢◌, ℕ, ◌+◌, ◌-◌, ◌*◌, ◌/◌, ◌%◌, ◌^◌, ◌<◌, Bool, true, false, List, [], ◌∷◌, ◌++◌, refl, ap, ◌∙◌, arith}
 use Rattle.std.specs.Prelude.{◌==◌, ◌&&◌, not, nat_lt, pos, negsuc, if◌then◌else◌}
 use Rattle.std.proofs.Math.Nat.{div-add-mod, mul_comm}
+use Rattle.std.proofs.lemmas.Bool.{and_parts}
 use Rattle.lg_base.specs.Fields.{word_of}
 use Rattle.lg_base.specs.Words.{add_words, sub_words, negated, signed_view}
 use Rattle.lg_base.specs.declared.flags.Flags.{Flags}
@@ -20,7 +21,7 @@ use Rattle.lg_sela_values.specs.Processor.Numbers.{number_code, LoadsNumber}
 use Rattle.lg_sela_values.proofs.OfProcessor.HeldLemmas.{read-is, write-is, put-same, put-other, put-twice}
 use Rattle.lg_sela_values.proofs.OfProcessor.NumberCodeLemmas.{numbers-are-loaded}
 use Rattle.lg_sela_values.proofs.OfProcessor.RegisterLemmas.{register-small, register-off-link}
-use Rattle.lg_carry.proofs.OfValues.ComputationLemmas.{and-true, computed-append}
+use Rattle.lg_carry.proofs.OfValues.ComputationLemmas.{computed-append}
 use Rattle.lg_carry.specs.Memory.Accesses.{Address, Base, At, Sum, Index, address_word, IsAddress}
 use Rattle.lg_carry.proofs.OfMemory.BehindLemmas.{all-compute-append}
 use Rattle.lg_sela.specs.Memory.Accesses.{Place, at_link, is_scaled, is_small, sum_code, is_close, is_counted, place_of}
@@ -47,14 +48,14 @@ whole bytes v e =
     mul_comm (v / bytes) bytes ∙ (let k : bytes * (v / bytes) ≡ v = omega (arith, d, z) in k)
 
 scaled : (bytes v : ℕ) → is_scaled bytes v ≡ true → v / bytes * bytes ≡ v
-scaled bytes v e = whole bytes v (and-true (v % bytes == 0) (nat_lt (v / bytes) 4096) e).0
+scaled bytes v e = whole bytes v (and_parts (v % bytes == 0) (nat_lt (v / bytes) 4096) e).0
 
 less-negated : (x v : ℕ) → x < 2 ^ 64 → v < 2 ^ 64 → sub_words x (negated v) ≡ add_words x v
 less-negated x v h k = omega (arith, h, k)
 
 -- a number of which the row that counts bytes is taken
 pub close_of : (bytes v : ℕ) → is_counted bytes v ≡ true → is_close v ≡ true
-close_of bytes v e = (and-true (not (is_scaled bytes v)) (is_close v) (and-true (bytes == 8) (not (is_scaled bytes v) && is_close v) e).1).1
+close_of bytes v e = (and_parts (not (is_scaled bytes v)) (is_close v) (and_parts (bytes == 8) (not (is_scaled bytes v) && is_close v) e).1).1
 
 -- a word by its signed view
 pub view-word : (v : ℕ) → v < 2 ^ 64 → word_of (signed_view v) ≡ v

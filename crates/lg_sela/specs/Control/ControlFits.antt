@@ -15,8 +15,10 @@ abbrev pub AreEmitted : ℕ → Bool → List Item → Type 0
 AreEmitted count leaping xs = good_items.AreEmitted a64_holes IsItem NamesOneOf count leaping xs
 
 abbrev pub ControlItemsFit : Type 0
-ControlItemsFit = (r : Reach) (n : Node) (labels frame homes at : ℕ) → IsFit AreEmitted n labels (control_items r n.op n.operands frame homes at)
+ControlItemsFit =
+    (r : Reach) (n : Node) (labels frame homes saved at : ℕ) → IsFit AreEmitted n labels (control_items r n.op n.operands frame homes saved at)
 
 -- the items write no register that is outside of the conventions
 abbrev pub ControlItemsStay : Type 0
-ControlItemsStay = (r : Reach) (n : Node) (frame homes at : ℕ) → StayWithin (moves_stack Aarch64 n.op) (control_items r n.op n.operands frame homes at)
+ControlItemsStay =
+    (r : Reach) (n : Node) (frame homes saved at : ℕ) → StayWithin (moves_stack Aarch64 n.op) (control_items r n.op n.operands frame homes saved at)

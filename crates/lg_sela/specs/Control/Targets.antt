@@ -17,9 +17,9 @@ use Rattle.lg_sela.specs.Control.RegisterLeaps.{register_jump_code, register_cal
 use Rattle.lg_sela.specs.Control.Returns.{returned_code}
 use Rattle.lg_sela.specs.Control.TwoWays.{branch_code, sum_branch_code}
 
--- with this reach
-abbrev pub a64_control : Reach → Codes Instr
-a64_control r = record {
+-- with this reach, where frames save so many of V0, V1 and V2
+abbrev pub a64_control : ℕ → Reach → Codes Instr
+a64_control saved r = record {
   branch = branch_code r;
   sum_branch = sum_branch_code r;
   jump = jump_code;
@@ -27,13 +27,14 @@ a64_control r = record {
   call = call_code;
   host_call = host_code;
   register_call = register_call_code;
-  ret = returned_code;
-  prolog = prolog_code;
+  ret = returned_code saved;
+  prolog = prolog_code saved;
   align = align_code;
 }
 
-abbrev pub IsA64 : Reach → List ℕ → ℕ → Type 0
-IsA64 r code trash = Controls (a64_rows code trash) a64_scratch IsInstr a64_ready (a64_control r)
+abbrev pub IsA64 : ℕ → Reach → List ℕ → ℕ → Type 0
+IsA64 saved r code trash = Controls (a64_rows code trash) a64_scratch IsInstr a64_ready saved (a64_control saved r)
 
 abbrev pub IsTarget : Type 0
-IsTarget = (r : Reach) (code : List ℕ) (trash : ℕ) → length code ≤ most_code → AreBytes code → trash < 2 ^ 64 → IsA64 r code trash
+IsTarget =
+    (saved : ℕ) (r : Reach) (code : List ℕ) (trash : ℕ) → length code ≤ most_code → AreBytes code → trash < 2 ^ 64 → IsA64 saved r code trash

@@ -14,12 +14,13 @@ use lg_sela_values::Item;
 
 /// Appends the items of a node that branches, jumps, calls or returns, of a `prolog`, an `.align` or a node without code, to none.
 ///
-/// `frame` is the size of the frame of the node's function in bytes, `homes` how many homes a `prolog` stores, `place` the place in the buffer at which
-/// the node's code begins, and `reach` how far it leads to a label. The node has the operands of its operation.
+/// `frame` is the size of the frame of the node's function in bytes, `homes` how many homes a `prolog` stores, `saved` how many of V0, V1 and V2 it saves,
+/// `place` the place in the buffer at which the node's code begins, and `reach` how far it leads to a label. The node has the operands of its operation.
 pub fn put_control(
     node: &Node,
     frame: u32,
     homes: u32,
+    saved: u32,
     place: u32,
     reach: Reach,
     items: &mut Items<Item>,
@@ -28,14 +29,14 @@ pub fn put_control(
     requires formed { InForm node.now }
     requires large { 272 ≤ frame }
     requires small { frame < 0x4000_0000 }
-    ensures { items.new ≡ control_items reach node.now.op node.now.operands frame homes place }
+    ensures { items.new ≡ control_items reach node.now.op node.now.operands frame homes saved place }
 {
     let operands = node.operands.as_slice();
     match node.op {
         Op::Branch(condition, _) => put_branch(reach, condition, operands, items),
         Op::BranchSum(op, _) => put_sum_branch(reach, op, operands, items),
-        Op::Control(op, last) => put_leap(frame, op, last, operands, items),
-        Op::Plain(op) => put_plain(op, operands, frame, homes, place, items),
+        Op::Control(op, last) => put_leap(frame, saved, op, last, operands, items),
+        Op::Plain(op) => put_plain(op, operands, frame, homes, saved, place, items),
         _ => {}
     }
 }

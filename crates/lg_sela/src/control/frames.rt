@@ -1,13 +1,13 @@
 // Functions that begin and return, and places at a multiple.
 
 ghost use Rattle.std.specs.Prelude.{◌≡◌, ◌+◌, ◌-◌, ◌/◌, ◌%◌, ◌<◌, ◌≤◌, true, false, [], ◌∷◌, ◌++◌};
-ghost use Rattle.lg_base.specs.Conventions.{argument_registers};
+ghost use Rattle.lg_base.specs.Conventions.{argument_registers, portable_register};
 ghost use Rattle.lg_base.specs.declared.target.Target.TheVariants.{Aarch64};
 ghost use Rattle.lg_sela_values.specs.Processor.A64Rows.{stack_pointer, frame_pointer, link};
 ghost use Rattle.lg_op.specs.declared.form.Form.TheVariants as form;
 ghost use Rattle.lg_sela.specs.Control.ControlItems.{align_items, plain_items};
-ghost use Rattle.lg_sela.specs.Control.Prologs.{stored_registers, store_word, stores_below, fall_code, framed_code, is_near, prolog_code};
-ghost use Rattle.lg_sela.specs.Control.Returns.{near_return, far_return, return_code};
+ghost use Rattle.lg_sela.specs.Control.Prologs.{first_registers, home_registers, store_word, stores_below, fall_code, framed_code, is_near, prolog_code};
+ghost use Rattle.lg_sela.specs.Control.Returns.{kept_loads, restores, link_load, near_return, far_return, return_code};
 ghost use Rattle.lg_sela_values.specs.Items.{words_in, ones};
 ghost use Rattle.lg_op.specs.Forms.{admit, plain_forms};
 
@@ -42,15 +42,22 @@ fn store(first: u32, reg: u8, word: u32) -> Instr
     }
 }
 
-// What each `prolog` stores: the link, FP, V0, V1 and V2.
-fn saves(first: u32) -> [Instr; 5]
+// What each `prolog` stores: the link and FP.
+fn link_stores(first: u32) -> [Instr; 2]
     requires large { 104 ≤ first }
     requires small { first ≤ 2048 }
-    ensures { result ≡ stores_below first (stored_registers 0) 0 }
+    ensures { result ≡ stores_below first (first_registers 0) 0 }
+{
+    [store(first, LINK, 0), store(first, FRAME_POINTER, 1)]
+}
+
+// The stores of V0, V1 and V2.
+fn saves(first: u32) -> [Instr; 3]
+    requires large { 104 ≤ first }
+    requires small { first ≤ 2048 }
+    ensures { result ≡ stores_below first (portable_register Aarch64 3 ∷ portable_register Aarch64 4 ∷ portable_register Aarch64 5 ∷ []) 2 }
 {
     [
-        store(first, LINK, 0),
-        store(first, FRAME_POINTER, 1),
         store(first, V0, 2),
         store(first, V1, 3),
         store(first, V2, 4),
@@ -111,30 +118,41 @@ fn put_fall(size: u32, items: &mut Items<Item>)
     }
 }
 
-// Appends the stores of a `prolog` with so many homes.
-#[tactic(auto, using(lg_sela_values::proofs::ItemLemmas::words_append))]
-fn put_stores(first: u32, homes: u32, items: &mut Items<Item>)
+// Appends the stores of the link, FP and so many of V0, V1 and V2.
+fn put_saves(first: u32, saved: u32, items: &mut Items<Item>)
     requires room { words_in items.old ≤ 50 }
     requires large { 104 ≤ first }
     requires small { first ≤ 2048 }
-    ensures stored { items.new ≡ items.old ++ ones (stores_below first (stored_registers homes) 0) }
-    ensures few { words_in items.new ≤ words_in items.old + 13 }
+    ensures stored { items.new ≡ items.old ++ ones (stores_below first (first_registers saved) 0) }
+    ensures few { words_in items.new ≤ words_in items.old + 5 }
 {
-    items.all(&saves(first));
+    items.all(&link_stores(first));
+    items.all(&saves(first)[..saved.min(3) as usize]);
+}
+
+// Appends the stores of so many homes.
+fn put_homes(first: u32, homes: u32, items: &mut Items<Item>)
+    requires room { words_in items.old ≤ 50 }
+    requires large { 104 ≤ first }
+    requires small { first ≤ 2048 }
+    ensures stored { items.new ≡ items.old ++ ones (stores_below first (home_registers homes) 5) }
+    ensures few { words_in items.new ≤ words_in items.old + 8 }
+{
     items.all(&home_stores(first)[..homes.min(8) as usize]);
 }
 
-// Appends the fall of the stack pointer by so much of a frame, its words, with so many homes, and FP to none.
+// Appends the fall of the stack pointer by so much of a frame, its words, with so many homes and so many of V0, V1 and V2, and FP to none.
 #[tactic(auto, using(lg_sela_values::proofs::ItemLemmas::words_append))]
-fn put_words(first: u32, homes: u32, items: &mut Items<Item>)
+fn put_words(first: u32, homes: u32, saved: u32, items: &mut Items<Item>)
     requires empty { items.old ≡ [] }
     requires large { 104 ≤ first }
     requires small { first ≤ 2048 }
-    ensures framed { items.new ≡ ones (framed_code first homes []) }
+    ensures framed { items.new ≡ ones (framed_code saved first homes []) }
     ensures few { words_in items.new ≤ 15 }
 {
     items.one(short_fall(first));
-    put_stores(first, homes, items);
+    put_saves(first, saved, items);
+    put_homes(first, homes, items);
     items.one(imm(
         ImmOp::Addi,
         FRAME_POINTER,
@@ -150,17 +168,17 @@ fn is_near(size: u32) -> bool
     size <= 2048 && size % 8 == 0
 }
 
-// Appends the code of a `prolog` with so many homes to none.
+// Appends the code of a `prolog` with so many homes, which saves so many of V0, V1 and V2, to none.
 #[tactic(auto, using(lg_sela_values::proofs::ItemLemmas::words_append))]
-fn put_prolog(size: u32, homes: u32, items: &mut Items<Item>)
+fn put_prolog(size: u32, homes: u32, saved: u32, items: &mut Items<Item>)
     requires empty { items.old ≡ [] }
     requires large { 272 ≤ size }
-    ensures { items.new ≡ ones (prolog_code size homes) }
+    ensures { items.new ≡ ones (prolog_code saved size homes) }
 {
     if is_near(size) {
-        put_words(size, homes, items);
+        put_words(size, homes, saved, items);
     } else {
-        put_words(112, homes, items);
+        put_words(112, homes, saved, items);
         put_fall(size - 112, items);
     }
 }
@@ -187,16 +205,19 @@ fn ret() -> Instr
     }
 }
 
-// What a return does in a frame whose size is a number of 12 bits.
-fn near_return(size: u32) -> [Instr; 7]
+// The loads of V0, V1 and V2.
+fn kept_loads() -> [Instr; 3]
+    ensures { result ≡ kept_loads }
+{
+    [load(V0, -8), load(V1, -16), load(V2, -24)]
+}
+
+// What a return then does in a frame whose size is a number of 12 bits.
+fn near_return(size: u32) -> [Instr; 3]
     requires { size < 4096 }
     ensures { result ≡ near_return size }
 {
     [
-        load(V0, -8),
-        load(V1, -16),
-        load(V2, -24),
-        load(LINK, 8),
         load(FRAME_POINTER, 0),
         imm(ImmOp::Addi, STACK_POINTER, STACK_POINTER, size as u16),
         ret(),
@@ -204,14 +225,10 @@ fn near_return(size: u32) -> [Instr; 7]
 }
 
 // And in a larger one.
-fn far_return() -> [Instr; 8]
+fn far_return() -> [Instr; 4]
     ensures { result ≡ far_return }
 {
     [
-        load(V0, -8),
-        load(V1, -16),
-        load(V2, -24),
-        load(LINK, 8),
         imm(ImmOp::Addi, STACK_POINTER, FRAME_POINTER, 0),
         Instr::Unscaled {
             op: UnscaledOp::Ldur,
@@ -224,11 +241,22 @@ fn far_return() -> [Instr; 8]
     ]
 }
 
-// Appends a return from a frame of so many bytes.
-pub(crate) fn put_return(frame: u32, items: &mut Items<Item>)
-    requires { words_in items.old ≤ 50 }
-    ensures { items.new ≡ items.old ++ ones (return_code frame) }
+// Appends the loads of so many of V0, V1 and V2, and of the return address.
+fn put_loads(saved: u32, items: &mut Items<Item>)
+    requires room { words_in items.old ≤ 50 }
+    ensures loaded { items.new ≡ (items.old ++ ones (restores saved)) ++ ones (link_load ∷ []) }
+    ensures few { words_in items.new ≤ words_in items.old + 4 }
 {
+    items.all(&kept_loads()[..saved.min(3) as usize]);
+    items.one(load(LINK, 8));
+}
+
+// Appends a return from a frame of so many bytes, in which so many of V0, V1 and V2 are saved.
+pub(crate) fn put_return(frame: u32, saved: u32, items: &mut Items<Item>)
+    requires { words_in items.old ≤ 50 }
+    ensures { items.new ≡ items.old ++ ones (return_code saved frame) }
+{
+    put_loads(saved, items);
     if frame < 4096 {
         items.all(&near_return(frame));
     } else {
@@ -258,17 +286,18 @@ pub(crate) fn put_plain(
     operands: &[Operand],
     frame: u32,
     homes: u32,
+    saved: u32,
     place: u32,
     items: &mut Items<Item>,
 )
     requires empty { items.old ≡ [] }
     requires formed { admit (plain_forms op) operands.now ≡ true }
     requires large { 272 ≤ frame }
-    ensures { items.new ≡ plain_items op operands.now frame homes place }
+    ensures { items.new ≡ plain_items op operands.now frame homes saved place }
 {
     match op {
-        PlainOp::Prolog => put_prolog(frame, homes, items),
-        PlainOp::Epilog | PlainOp::Ret => put_return(frame, items),
+        PlainOp::Prolog => put_prolog(frame, homes, saved, items),
+        PlainOp::Epilog | PlainOp::Ret => put_return(frame, saved, items),
         PlainOp::Align => put_align(place, operands, items),
         _ => {}
     }

@@ -95,50 +95,50 @@ labels-call Short to at l = refl
 labels-call Near to at l = refl
 labels-call Far to at l = refl
 
-module _ (r : Reach) (to : ℕ → ℕ) (frame homes at : ℕ) where
-  branches : (o : Condition) (xs : List Operand) → settled to at (branch_items r o xs) ≡ branch_of (rv_control r) to frame at o xs
+module _ (r : Reach) (to : ℕ → ℕ) (frame homes saved at : ℕ) where
+  branches : (o : Condition) (xs : List Operand) → settled to at (branch_items r o xs) ≡ branch_of (rv_control saved r) to frame at o xs
   branches o (operand.Label l ∷ operand.Reg a ∷ x ∷ []) =
       let ra : ℕ = register_of Riscv64 a in let b : ℕ = second_register x in
       ap (λ ys. settled to at (ys ++ (ones (bits_code o ra b) ++ jump_unless_items r (failing o) (left_of o ra b) (right_of o ra b) l))) (second-is x)
       ∙ unless-settled r to at (second_code x) (bits_code o ra b) (failing o) (left_of o ra b) (right_of o ra b) l
   branches o xs = refl
 
-  sum-branches : (o : BranchSumOp) (xs : List Operand) → settled to at (sum_items r o xs) ≡ sum_branch_of (rv_control r) to frame at o xs
+  sum-branches : (o : BranchSumOp) (xs : List Operand) → settled to at (sum_items r o xs) ≡ sum_branch_of (rv_control saved r) to frame at o xs
   sum-branches o (operand.Label l ∷ operand.Reg a ∷ x ∷ []) =
       let body : List Instr = sum_code o (register_of Riscv64 a) (second_register x) in
       ap (λ ys. settled to at (ys ++ (ones body ++ jump_unless_items r (staying o) 31 0 l))) (second-is x)
       ∙ unless-settled r to at (second_code x) body (staying o) 31 0 l
   sum-branches o xs = refl
 
-  jumps : (xs : List Operand) → settled to at (jump_items r xs) ≡ jump_of (rv_control r) to at xs
+  jumps : (xs : List Operand) → settled to at (jump_items r xs) ≡ jump_of (rv_control saved r) to at xs
   jumps (operand.Label l ∷ []) = labels-jump r to at l
   jumps xs = refl
 
-  calls : (xs : List Operand) → settled to at (call_items r xs) ≡ call_of (rv_control r) to at xs
+  calls : (xs : List Operand) → settled to at (call_items r xs) ≡ call_of (rv_control saved r) to at xs
   calls (operand.Label l ∷ []) = labels-call r to at l
   calls (operand.Host name ∷ []) = refl
   calls xs = refl
 
-  register-jumps : (xs : List Operand) → settled to at (register_leap_items 0 xs) ≡ target_control.register_leap_of (rv_control r).register_jump frame xs
+  register-jumps : (xs : List Operand) → settled to at (register_leap_items 0 xs) ≡ target_control.register_leap_of (rv_control saved r).register_jump frame xs
   register-jumps (operand.Reg a ∷ []) = refl
   register-jumps xs = refl
 
-  register-calls : (xs : List Operand) → settled to at (register_leap_items 1 xs) ≡ target_control.register_leap_of (rv_control r).register_call frame xs
+  register-calls : (xs : List Operand) → settled to at (register_leap_items 1 xs) ≡ target_control.register_leap_of (rv_control saved r).register_call frame xs
   register-calls (operand.Reg a ∷ []) = refl
   register-calls xs = refl
 
-  result : (x : Operand) → settled to at (result_items x ++ ones (return_code frame)) ≡ (rv_control r).ret frame (returned_of to x)
-  result (operand.Reg a) = ones-settled to at (instr.Imm Addi 10 (register_of Riscv64 a) (pos 0) ∷ []) (return_code frame)
-  result (operand.Number v) = ones-settled to at (number_code 10 v) (return_code frame)
-  result (operand.Host name) = ones-settled to at (number_code 10 (host_address name)) (return_code frame)
-  result (operand.Label l) = ap (λ is. result_code (OfLabel (to l.0)) ++ is) (settled-ones to (at + 8) (return_code frame))
-  result (operand.Slot k) = settled-ones to at (return_code frame)
+  result : (x : Operand) → settled to at (result_items x ++ ones (return_code saved frame)) ≡ (rv_control saved r).ret frame (returned_of to x)
+  result (operand.Reg a) = ones-settled to at (instr.Imm Addi 10 (register_of Riscv64 a) (pos 0) ∷ []) (return_code saved frame)
+  result (operand.Number v) = ones-settled to at (number_code 10 v) (return_code saved frame)
+  result (operand.Host name) = ones-settled to at (number_code 10 (host_address name)) (return_code saved frame)
+  result (operand.Label l) = ap (λ is. result_code (OfLabel (to l.0)) ++ is) (settled-ones to (at + 8) (return_code saved frame))
+  result (operand.Slot k) = settled-ones to at (return_code saved frame)
 
-  returns : (xs : List Operand) → settled to at (ret_items frame xs) ≡ return_of (rv_control r) to frame xs
+  returns : (xs : List Operand) → settled to at (ret_items frame saved xs) ≡ return_of (rv_control saved r) to frame xs
   returns (x ∷ []) = result x
   returns xs = refl
 
-  leaps : (o : ControlOp) (last : LastOperand) (xs : List Operand) → settled to at (leap_items r frame o last xs) ≡ leap_of (rv_control r) to frame at o last xs
+  leaps : (o : ControlOp) (last : LastOperand) (xs : List Operand) → settled to at (leap_items r frame saved o last xs) ≡ leap_of (rv_control saved r) to frame at o last xs
   leaps control.Jmp last_operand.Immediate xs = jumps xs
   leaps control.Jmp last_operand.Register xs = register-jumps xs
   leaps control.Call last_operand.Immediate xs = calls xs
@@ -148,18 +148,18 @@ module _ (r : Reach) (to : ℕ → ℕ) (frame homes at : ℕ) where
   leaps control.Ret last xs = returns xs
   leaps o last xs = refl
 
-  alignments : (xs : List Operand) → settled to at (align_items at xs) ≡ align_of (rv_control r) at xs
+  alignments : (xs : List Operand) → settled to at (align_items at xs) ≡ align_of (rv_control saved r) at xs
   alignments (operand.Number n ∷ []) = settled-ones to at (align_code at n)
   alignments xs = refl
 
-  plains : (o : PlainOp) (xs : List Operand) → settled to at (plain_items o xs frame homes at) ≡ plain_of (rv_control r) frame homes at o xs
-  plains plain.Prolog xs = settled-ones to at (prolog_code frame homes)
-  plains plain.Epilog xs = settled-ones to at (return_code frame)
-  plains plain.Ret xs = settled-ones to at (return_code frame)
+  plains : (o : PlainOp) (xs : List Operand) → settled to at (plain_items o xs frame homes saved at) ≡ plain_of (rv_control saved r) frame homes at o xs
+  plains plain.Prolog xs = settled-ones to at (prolog_code saved frame homes)
+  plains plain.Epilog xs = settled-ones to at (return_code saved frame)
+  plains plain.Ret xs = settled-ones to at (return_code saved frame)
   plains plain.Align xs = alignments xs
   plains o xs = refl
 
-  items-are-code : (o : Op) (xs : List Operand) → settled to at (control_items r o xs frame homes at) ≡ control_code (rv_control r) to frame homes at o xs
+  items-are-code : (o : Op) (xs : List Operand) → settled to at (control_items r o xs frame homes saved at) ≡ control_code (rv_control saved r) to frame homes at o xs
   items-are-code (op.Branch o last) xs = branches o xs
   items-are-code (op.BranchSum o last) xs = sum-branches o xs
   items-are-code (op.Control o last) xs = leaps o last xs
@@ -167,7 +167,7 @@ module _ (r : Reach) (to : ℕ → ℕ) (frame homes at : ℕ) where
   items-are-code o xs = refl
 
 pub control-nodes-carry : ControlNodesCarry
-control-nodes-carry r code trash c i n frame homes S h w v e is-frame is-homes t k =
-    let same = items-are-code r (slice_index c.addresses) frame homes (c.place i) n.op n.operands in
-    target_lemmas.control-nodes-carry (rv_rows code trash) rv_scratch IsInstr rv_ready (rv_control r) (is-target r code trash k.small k.bytes k.word) c i n frame homes S h
-    (has-places code trash c w) v e is-frame is-homes t (subst (IsNodeCode (rv_rows code trash) IsInstr c i) same k.node)
+control-nodes-carry r code trash c i n frame homes saved S h w v e is-frame is-homes is-saved t k =
+    let same = items-are-code r (slice_index c.addresses) frame homes saved (c.place i) n.op n.operands in
+    target_lemmas.control-nodes-carry (rv_rows code trash) rv_scratch IsInstr rv_ready saved (rv_control saved r) (is-target saved r code trash k.small k.bytes k.word) c i n frame homes S h
+    (has-places code trash c w) v e is-frame is-homes is-saved t (subst (IsNodeCode (rv_rows code trash) IsInstr c i) same k.node)

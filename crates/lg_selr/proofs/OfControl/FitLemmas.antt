@@ -1,7 +1,7 @@
 -- The items of the nodes can be appended to a buffer.
-use Rattle.std.proofs.Common.{◌≡◌, ◌≢◌, ℕ, zero, suc, ◌+◌, ◌-◌, ◌*◌, ◌^◌, ◌<◌, ◌≤◌, Bool, true, false, List, [], ◌∷◌, ◌++◌, refl, sym, ap, subst, arith, length}
+use Rattle.std.proofs.Common.{◌≡◌, ◌≢◌, ℕ, zero, suc, ◌+◌, ◌-◌, ◌*◌, ◌^◌, ◌<◌, ◌≤◌, Bool, true, false, List, [], ◌∷◌, ◌++◌, refl, sym, ap, subst, arith, length, length-append}
 use Rattle.std.proofs.lemmas.Int.{ints}
-use Rattle.std.specs.Prelude.{◌==◌, ◌&&◌, ℤ, pos, negsuc, ◌≤ℤ◌, nat_le, nat_lt, if◌then◌else◌}
+use Rattle.std.specs.Prelude.{◌==◌, ℤ, pos, negsuc, ◌≤ℤ◌, nat_le, nat_lt, if◌then◌else◌}
 use Rattle.std.specs.List.{list_all}
 use Rattle.std.proofs.lemmas.Bool.{and_parts}
 use Rattle.lg_base.specs.Conventions.{argument_registers}
@@ -27,7 +27,7 @@ use Rattle.lg_rv.specs.declared.instruction.BranchOp.{BranchOp}
 use Rattle.lg_rv.specs.declared.instruction.Instr.{Instr}
 use Rattle.lg_rv.specs.declared.instruction.Instr.TheVariants as instr
 use Rattle.lg_rv.specs.declared.instruction.ImmOp.{ImmOp}
-use Rattle.lg_rv.specs.declared.instruction.ImmOp.TheVariants.{Addi, Addiw}
+use Rattle.lg_rv.specs.declared.instruction.ImmOp.TheVariants.{Ld, Addi, Addiw}
 use Rattle.lg_rv.specs.declared.instruction.RegOp.TheVariants.{Sub}
 use Rattle.lg_rv.specs.declared.instruction.UpperOp.TheVariants.{Lui}
 use Rattle.lg_temp.specs.Abis.{register_of}
@@ -51,10 +51,12 @@ use Rattle.lg_selr.specs.Control.TwoWays.{second_code}
 use Rattle.lg_selr.proofs.OfControl.ControlLemmas.{second-is}
 use Rattle.lg_selr.specs.Control.ControlLaws.{ends_in_label}
 use Rattle.lg_selr.specs.Control.HostCalls.{host_code}
-use Rattle.lg_selr.specs.Control.Prologs.{stored_registers, stores_below, fall_code, framed_code, prolog_code}
+use Rattle.lg_selr.specs.Control.Prologs.{first_registers, home_registers, stores_below, fall_code, framed_code, prolog_code}
 use Rattle.lg_selr.specs.Control.RegisterLeaps.{register_leap_code}
-use Rattle.lg_selr.specs.Control.Returns.{near_return, far_return, return_code}
+use Rattle.lg_selr.specs.Control.Returns.{restores, near_return, far_return, leaving_code, return_code}
 use Rattle.lg_selr.specs.Control.SumBranches.{sum_code, staying}
+use Rattle.lg_selr.proofs.OfControl.RestoreLemmas.{of-saved}
+use Rattle.lg_sel.specs.Control.Stores.{kept_registers}
 use Rattle.lg_sel.proofs.OfControl.StoreLemmas.{take-all}
 use Rattle.lg_sel.proofs.OfControl.ControlLemmas.{differ, never, never-sum, host-small}
 
@@ -128,44 +130,37 @@ far-return-fits = (
   (omega arith, omega arith, omega arith, omega arith),
   (
     (omega arith, omega arith, omega arith, omega arith),
-    (
-      (omega arith, omega arith, omega arith, omega arith),
-      (
-        (omega arith, omega arith, omega arith, omega arith),
-        ((omega arith, omega arith, omega arith, omega arith), ((omega arith, omega arith, omega arith, omega arith), ((omega arith, omega arith, omega arith, omega arith), ((omega arith, omega arith, omega arith, omega arith), tt)))),
-      ),
-    ),
+    ((omega arith, omega arith, omega arith, omega arith), ((omega arith, omega arith, omega arith, omega arith), ((omega arith, omega arith, omega arith, omega arith), tt))),
   ),
 )
 
 near-return-fits : (frame : ℕ) → frame < 2048 → AreItems (ones (near_return frame))
 near-return-fits frame small = (
   (omega arith, omega arith, omega arith, omega arith),
-  (
-    (omega arith, omega arith, omega arith, omega arith),
-    (
-      (omega arith, omega arith, omega arith, omega arith),
-      (
-        (omega arith, omega arith, omega arith, omega arith),
-        ((omega arith, omega arith, omega arith, omega arith), ((omega arith, omega arith, omega (arith, ints), omega (arith, ints, small)), ((omega arith, omega arith, omega arith, omega arith), tt))),
-      ),
-    ),
-  ),
+  ((omega arith, omega arith, omega arith, omega arith), ((omega arith, omega arith, omega (arith, ints), omega (arith, ints, small)), ((omega arith, omega arith, omega arith, omega arith), tt))),
 )
 
-return-fits : (frame : ℕ) → AreItems (ones (return_code frame))
-return-fits frame = by (nat_lt frame 2048) refl
+leaving-fits : (frame : ℕ) → AreItems (ones (leaving_code frame))
+leaving-fits frame = by (nat_lt frame 2048) refl
   where
     by : (b : Bool) → nat_lt frame 2048 ≡ b → AreItems (ones (if b then near_return frame else far_return))
     by true e = near-return-fits frame (grind (arith, e))
     by false e = far-return-fits
 
-return-some : (frame : ℕ) → 0 < length (return_code frame)
-return-some frame = by (nat_lt frame 2048)
+return-fits : (saved frame : ℕ) → AreItems (ones (return_code saved frame))
+return-fits saved frame =
+    let left = leaving-fits frame in
+    let v0 : IsItem (One (instr.Imm Ld 9 8 (negsuc 7))) = (omega arith, omega arith, omega arith, omega arith) in
+    let v1 : IsItem (One (instr.Imm Ld 18 8 (negsuc 15))) = (omega arith, omega arith, omega arith, omega arith) in
+    let v2 : IsItem (One (instr.Imm Ld 19 8 (negsuc 23))) = (omega arith, omega arith, omega arith, omega arith) in
+    of-saved (λ n is. AreItems (ones (is ++ leaving_code frame))) left (v0, left) (v0, (v1, left)) (λ s. (v0, (v1, (v2, left)))) saved
+
+return-some : (saved frame : ℕ) → 0 < length (return_code saved frame)
+return-some saved frame = by (nat_lt frame 2048)
   where
-    by : (b : Bool) → 0 < length (if b then near_return frame else far_return)
-    by true = omega arith
-    by false = omega arith
+    by : (b : Bool) → 0 < length (restores saved ++ (if b then near_return frame else far_return))
+    by true = let e = length-append (restores saved) (near_return frame) in omega (arith, e)
+    by false = let e = length-append (restores saved) far_return in omega (arith, e)
 
 high-fits : (name : HostName) → high_part (host_address name) < 2 ^ 20
 high-fits name = omega arith
@@ -186,8 +181,11 @@ all-below rs = list_all (λ r. nat_lt r 32) rs
 below : (r : ℕ) → nat_lt r 32 ≡ true → r < 32
 below r h = grind (arith, h)
 
-stored-below : (homes : ℕ) → all-below (stored_registers homes) ≡ true
-stored-below homes = take-all (λ r. nat_lt r 32) (argument_registers Riscv64) homes refl
+firsts-below : (saved : ℕ) → all-below (first_registers saved) ≡ true
+firsts-below saved = take-all (λ r. nat_lt r 32) (kept_registers Riscv64 3) saved refl
+
+homes-below : (homes : ℕ) → all-below (home_registers homes) ≡ true
+homes-below homes = take-all (λ r. nat_lt r 32) (argument_registers Riscv64) homes refl
 
 stores-fit : (first : ℕ) (rs : List ℕ) (k : ℕ) → first ≤ 2048 → all-below rs ≡ true → AreItems (ones (stores_below first rs k))
 stores-fit first [] k near h = tt
@@ -211,26 +209,30 @@ fall-fits size = by (nat_le size 2048) refl
 pointer-high : (first : ℕ) → first ≤ 2048 → pos (first - 16) ≤ℤ pos 2047
 pointer-high first h = grind (arith, h)
 
-framed-fits : (first homes : ℕ) (rest : List Instr) → first ≤ 2048 → AreItems (ones rest) → AreItems (ones (framed_code first homes rest))
-framed-fits first homes rest near h =
-    let end = instr.Imm Addi 8 2 (pos (first - 16)) ∷ rest in (
+framed-fits : (saved first homes : ℕ) (rest : List Instr) → first ≤ 2048 → AreItems (ones rest) → AreItems (ones (framed_code saved first homes rest))
+framed-fits saved first homes rest near h =
+    let end : List Instr = instr.Imm Addi 8 2 (pos (first - 16)) ∷ rest in
+    let firsts : List Instr = stores_below first (first_registers saved) 0 in
+    let lasts : List Instr = stores_below first (home_registers homes) 5 in (
       (omega arith, omega arith, short-low first near, grind arith),
-      subst AreItems (sym (ones-append (stores_below first (stored_registers homes) 0) end))
-          (items-append (ones (stores_below first (stored_registers homes) 0)) (ones end) (stores-fit first (stored_registers homes) 0 near (stored-below homes))
-          ((omega arith, omega arith, grind arith, pointer-high first near), h)),
+      subst AreItems (sym (ones-append firsts (lasts ++ end)))
+          (items-append (ones firsts) (ones (lasts ++ end)) (stores-fit first (first_registers saved) 0 near (firsts-below saved))
+          (subst AreItems (sym (ones-append lasts end))
+          (items-append (ones lasts) (ones end) (stores-fit first (home_registers homes) 5 near (homes-below homes))
+          ((omega arith, omega arith, grind arith, pointer-high first near), h)))),
     )
 
-prolog-fits : (size homes : ℕ) → AreItems (ones (prolog_code size homes))
-prolog-fits size homes = by (nat_le size 2048) refl
+prolog-fits : (saved size homes : ℕ) → AreItems (ones (prolog_code saved size homes))
+prolog-fits saved size homes = by (nat_le size 2048) refl
   where
-    by : (b : Bool) → nat_le size 2048 ≡ b → AreItems (ones (if b then framed_code size homes [] else framed_code 2048 homes (fall_code (size - 2048))))
-    by true e = framed-fits size homes [] (at-most size e) tt
-    by false e = framed-fits 2048 homes (fall_code (size - 2048)) (omega arith) (fall-fits (size - 2048))
+    by : (b : Bool) → nat_le size 2048 ≡ b → AreItems (ones (if b then framed_code saved size homes [] else framed_code saved 2048 homes (fall_code (size - 2048))))
+    by true e = framed-fits saved size homes [] (at-most size e) tt
+    by false e = framed-fits saved 2048 homes (fall_code (size - 2048)) (omega arith) (fall-fits (size - 2048))
 
 -- ---- the nodes
-module _ (r : Reach) (labels frame homes at : ℕ) where
+module _ (r : Reach) (labels frame homes saved at : ℕ) where
   abbrev items-of : Op → List Operand → List Item
-  items-of o xs = control_items r o xs frame homes at
+  items-of o xs = control_items r o xs frame homes saved at
 
   -- the second operand is put into its register
   second-fits : (x : Operand) → IsGiven labels x → AreItems (ones (second_code x))
@@ -299,17 +301,17 @@ module _ (r : Reach) (labels frame homes at : ℕ) where
   register-leap rd (x ∷ y ∷ ys) lt h = absurd (never (admits form.Read x) h)
   register-leap rd xs lt h = absurd (differ h)
 
-  returns : AreEmitted labels true (ones (return_code frame))
-  returns = plain-emitted labels true (return_code frame) (return-fits frame) (λ e. return-some frame)
+  returns : AreEmitted labels true (ones (return_code saved frame))
+  returns = plain-emitted labels true (return_code saved frame) (return-fits saved frame) (λ e. return-some saved frame)
 
   ret : (last : LastOperand) (xs : List Operand) → admit (forms_of (op.Control control.Ret last)) xs ≡ true → AreGiven labels xs → AreEmitted labels true (items-of (op.Control control.Ret last) xs)
-  ret last_operand.Register (operand.Reg a ∷ []) h v = in-front labels true (instr.Imm Addi 10 (register_of Riscv64 a) (pos 0) ∷ []) (ones (return_code frame)) ((omega arith, register-small a, omega arith, omega arith), tt) returns
-  ret last_operand.Immediate (operand.Number x ∷ []) h v = in-front labels true (number_code 10 x) (ones (return_code frame)) (number-fits 10 x (λ z. cc) (omega arith) v.0) returns
-  ret last_operand.Immediate (operand.Host name ∷ []) h v = in-front labels true (number_code 10 (host_address name)) (ones (return_code frame)) (number-fits 10 (host_address name) (λ z. cc) (omega arith) (host-small name)) returns
+  ret last_operand.Register (operand.Reg a ∷ []) h v = in-front labels true (instr.Imm Addi 10 (register_of Riscv64 a) (pos 0) ∷ []) (ones (return_code saved frame)) ((omega arith, register-small a, omega arith, omega arith), tt) returns
+  ret last_operand.Immediate (operand.Number x ∷ []) h v = in-front labels true (number_code 10 x) (ones (return_code saved frame)) (number-fits 10 x (λ z. cc) (omega arith) v.0) returns
+  ret last_operand.Immediate (operand.Host name ∷ []) h v = in-front labels true (number_code 10 (host_address name)) (ones (return_code saved frame)) (number-fits 10 (host_address name) (λ z. cc) (omega arith) (host-small name)) returns
   ret last_operand.Immediate (operand.Label l ∷ []) h v = record {
-    items = (omega arith, return-fits frame);
+    items = (omega arith, return-fits saved frame);
     labels = (v.0, returns.labels);
-    one_fix = λ place. let e = ap length (fixes-ones (place + 4 * 2) (return_code frame)) in omega (arith, e);
+    one_fix = λ place. let e = ap length (fixes-ones (place + 4 * 2) (return_code saved frame)) in omega (arith, e);
     some = λ e. omega arith;
   }
   ret last_operand.Register (x ∷ y ∷ ys) h v = absurd (never (admits form.Read x) h)
@@ -334,7 +336,7 @@ module _ (r : Reach) (labels frame homes at : ℕ) where
   by-op (op.Control control.Call last_operand.Immediate) xs c h v e = call xs h v
   by-op (op.Control control.Finish last_operand.Immediate) xs c h v e = call xs h v
   by-op (op.Control control.Ret last) xs c h v e = ret last xs h v
-  by-op (op.Plain plain.Prolog) xs c h v e = plain-emitted labels false (prolog_code frame homes) (prolog-fits frame homes) (λ z. absurd (differ z))
+  by-op (op.Plain plain.Prolog) xs c h v e = plain-emitted labels false (prolog_code saved frame homes) (prolog-fits saved frame homes) (λ z. absurd (differ z))
   by-op (op.Plain plain.Epilog) xs c h v e = returns
   by-op (op.Plain plain.Ret) xs c h v e = returns
   by-op (op.Plain plain.Align) xs c h v e = align xs h
@@ -346,4 +348,4 @@ module _ (r : Reach) (labels frame homes at : ℕ) where
   by-op o xs c h v e = absurd (differ c)
 
 pub control-items-fit : ControlItemsFit
-control-items-fit r n labels frame homes at c h v e = by-op r labels frame homes at n.op n.operands c h.forms v e
+control-items-fit r n labels frame homes saved at c h v e = by-op r labels frame homes saved at n.op n.operands c h.forms v e

@@ -15,12 +15,12 @@ use Rattle.lg_selr.proofs.OfControl.SumBranchLemmas.{sum-branches-lead}
 use Rattle.lg_selr.proofs.OfControl.WalkLemmas.{jumps-walk, register-jumps-walk}
 
 pub is-target : IsTarget
-is-target r code trash small bytes word = record {
+is-target saved r code trash small bytes word = record {
   isa = is-isa code trash small bytes word;
   branches = branches-lead r code trash small bytes word;
   sum_branches = sum-branches-lead r code trash small bytes word;
-  prologs = prologs-lead code trash small bytes word;
-  returns = returns-lead code trash small bytes word;
+  prologs = prologs-lead saved code trash small bytes word;
+  returns = returns-lead saved code trash small bytes word;
   jumps = jumps-walk code trash small bytes word r;
   alignments = alignments-walk code trash small bytes word;
   register_jumps = register-jumps-walk code trash small bytes word;

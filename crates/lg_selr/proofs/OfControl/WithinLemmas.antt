@@ -1,5 +1,5 @@
 -- No item of a node that branches, jumps, calls or returns, of `prolog` or `.align` writes a register that is outside of the conventions.
-use Rattle.std.proofs.Common.{ℕ, zero, suc, Bool, true, false, List, [], ◌∷◌, refl}
+use Rattle.std.proofs.Common.{ℕ, zero, suc, Bool, true, false, List, [], ◌∷◌, ◌++◌, refl}
 use Rattle.std.specs.Prelude.{◌==◌, ◌-◌, pos, negsuc, nat_le, nat_lt, if◌then◌else◌}
 use Rattle.lg_carry.specs.Outside.{moves_stack}
 use Rattle.lg_base.specs.HostNames.{host_address}
@@ -31,14 +31,15 @@ use Rattle.lg_selr.specs.Control.Branches.{bits_code}
 use Rattle.lg_selr.specs.Control.ControlItems.{second_register, word_items, branch_items, sum_items, jump_items, call_items, result_items, ret_items, register_leap_items, leap_items, align_items, plain_items, control_items}
 use Rattle.lg_selr.specs.Control.ControlItems as controls
 use Rattle.lg_carry.specs.Nodes.Immediates.{immediate}
-use Rattle.lg_selr.specs.Control.Prologs.{stored_registers, stores_below, fall_code, framed_code, prolog_code}
-use Rattle.lg_selr.specs.Control.Returns.{near_return, far_return, return_code}
+use Rattle.lg_selr.specs.Control.Prologs.{first_registers, home_registers, stores_below, fall_code, framed_code, prolog_code}
+use Rattle.lg_selr.specs.Control.Returns.{near_return, far_return, leaving_code, return_code}
 use Rattle.lg_selr.specs.Control.SumBranches as sums
 use Rattle.lg_selr_values.specs.Items.{ones, StayWithin}
 use Rattle.lg_temp.specs.Abis.{register_of}
 use Rattle.lg_sel.specs.declared.reach.Reach.{Reach}
 use Rattle.lg_sel.specs.declared.reach.Reach.TheVariants.{Short, Near, Far}
-use Rattle.lg_selr_values.proofs.WithinLemmas.{In, portable, Within, join, stay-append, stay-ones, number, Moving, moving-join, moving-append, moving-ones, items-moving}
+use Rattle.lg_selr_values.proofs.WithinLemmas.{In, portable, Within, stay-append, stay-ones, number, Moving, moving-join, moving-append, moving-ones, items-moving}
+use Rattle.lg_selr.proofs.OfControl.RestoreLemmas.{of-saved}
 use Rattle.lg_selr.specs.Control.ControlFits.{ControlItemsStay}
 
 -- ---- branches, jumps, calls and returns
@@ -114,30 +115,35 @@ module _ (r : Reach) where
   result (operand.Host name) = word 10 (operand.Host name) refl
   result (operand.Slot k) = word 10 (operand.Slot k) refl
 
-  returns : (frame : ℕ) → StayWithin true (ones (return_code frame))
-  returns frame = by (nat_lt frame 2048)
+  leaving : (frame : ℕ) → StayWithin true (ones (leaving_code frame))
+  leaving frame = by (nat_lt frame 2048)
     where
       by : (b : Bool) → StayWithin true (ones (if b then near_return frame else far_return))
-      by true = (refl, (refl, (refl, (refl, (refl, (refl, (refl, tt)))))))
-      by false = (refl, (refl, (refl, (refl, (refl, (refl, (refl, (refl, tt))))))))
+      by true = (refl, (refl, (refl, (refl, tt))))
+      by false = (refl, (refl, (refl, (refl, (refl, tt)))))
 
-  returned : (frame : ℕ) (xs : List Operand) → StayWithin true (ret_items frame xs)
-  returned frame (x ∷ []) = moving-append (result_items x) (ones (return_code frame)) (items-moving (result_items x) (result x)) (returns frame)
-  returned frame xs = tt
+  returns : (saved frame : ℕ) → StayWithin true (ones (return_code saved frame))
+  returns saved frame =
+      let left = leaving frame in
+      of-saved (λ n is. StayWithin true (ones (is ++ leaving_code frame))) left (refl, left) (refl, (refl, left)) (λ s. (refl, (refl, (refl, left)))) saved
+
+  returned : (frame saved : ℕ) (xs : List Operand) → StayWithin true (ret_items frame saved xs)
+  returned frame saved (x ∷ []) = moving-append (result_items x) (ones (return_code saved frame)) (items-moving (result_items x) (result x)) (returns saved frame)
+  returned frame saved xs = tt
 
   leapt : (rd : ℕ) (xs : List Operand) → In rd → StayWithin false (register_leap_items rd xs)
   leapt rd (operand.Reg a ∷ []) h = (h, tt)
   leapt rd xs h = tt
 
-  leaps : (frame : ℕ) (o : ControlOp) (last : LastOperand) (xs : List Operand) → StayWithin (moves_stack Riscv64 (op.Control o last)) (leap_items r frame o last xs)
-  leaps frame control.Jmp last_operand.Immediate xs = jumped xs
-  leaps frame control.Jmp last_operand.Register xs = leapt 0 xs refl
-  leaps frame control.Call last_operand.Immediate xs = called xs
-  leaps frame control.Call last_operand.Register xs = leapt 1 xs refl
-  leaps frame control.Finish last_operand.Immediate xs = called xs
-  leaps frame control.Finish last_operand.Register xs = leapt 1 xs refl
-  leaps frame control.Ret last xs = returned frame xs
-  leaps frame control.Pusharg last xs = tt
+  leaps : (frame saved : ℕ) (o : ControlOp) (last : LastOperand) (xs : List Operand) → StayWithin (moves_stack Riscv64 (op.Control o last)) (leap_items r frame saved o last xs)
+  leaps frame saved control.Jmp last_operand.Immediate xs = jumped xs
+  leaps frame saved control.Jmp last_operand.Register xs = leapt 0 xs refl
+  leaps frame saved control.Call last_operand.Immediate xs = called xs
+  leaps frame saved control.Call last_operand.Register xs = leapt 1 xs refl
+  leaps frame saved control.Finish last_operand.Immediate xs = called xs
+  leaps frame saved control.Finish last_operand.Register xs = leapt 1 xs refl
+  leaps frame saved control.Ret last xs = returned frame saved xs
+  leaps frame saved control.Pusharg last xs = tt
 
   idles : (k : ℕ) → Within (idle k)
   idles zero = tt
@@ -158,32 +164,34 @@ module _ (r : Reach) where
       by true = (refl, tt)
       by false = (refl, (refl, (refl, tt)))
 
-  begins : (frame homes : ℕ) → Moving (prolog_code frame homes)
-  begins frame homes = by (nat_le frame 2048)
+  begins : (saved frame homes : ℕ) → Moving (prolog_code saved frame homes)
+  begins saved frame homes = by (nat_le frame 2048)
     where
-      framed : (first : ℕ) (rest : List Instr) → Moving rest → Moving (framed_code first homes rest)
-      framed first rest h = (
-        refl,
-        moving-join (stores_below first (stored_registers homes) 0) (instr.Imm Addi 8 2 (pos (first - 16)) ∷ rest) (below first (stored_registers homes) 0) (refl, h),
-      )
+      framed : (first : ℕ) (rest : List Instr) → Moving rest → Moving (framed_code saved first homes rest)
+      framed first rest h =
+          let end : List Instr = instr.Imm Addi 8 2 (pos (first - 16)) ∷ rest in (
+            refl,
+            moving-join (stores_below first (first_registers saved) 0) (stores_below first (home_registers homes) 5 ++ end) (below first (first_registers saved) 0)
+                (moving-join (stores_below first (home_registers homes) 5) end (below first (home_registers homes) 5) (refl, h)),
+          )
 
-      by : (b : Bool) → Moving (if b then framed_code frame homes [] else framed_code 2048 homes (fall_code (frame - 2048)))
+      by : (b : Bool) → Moving (if b then framed_code saved frame homes [] else framed_code saved 2048 homes (fall_code (frame - 2048)))
       by true = framed frame [] tt
       by false = framed 2048 (fall_code (frame - 2048)) (falls (frame - 2048))
 
-  plainly : (o : PlainOp) (xs : List Operand) (frame homes at : ℕ) → StayWithin (moves_stack Riscv64 (op.Plain o)) (plain_items o xs frame homes at)
-  plainly plain.Prolog xs frame homes at = moving-ones (prolog_code frame homes) (begins frame homes)
-  plainly plain.Epilog xs frame homes at = returns frame
-  plainly plain.Ret xs frame homes at = returns frame
-  plainly plain.Align xs frame homes at = aligned at xs
-  plainly o xs frame homes at = tt
+  plainly : (o : PlainOp) (xs : List Operand) (frame homes saved at : ℕ) → StayWithin (moves_stack Riscv64 (op.Plain o)) (plain_items o xs frame homes saved at)
+  plainly plain.Prolog xs frame homes saved at = moving-ones (prolog_code saved frame homes) (begins saved frame homes)
+  plainly plain.Epilog xs frame homes saved at = returns saved frame
+  plainly plain.Ret xs frame homes saved at = returns saved frame
+  plainly plain.Align xs frame homes saved at = aligned at xs
+  plainly o xs frame homes saved at = tt
 
-  answered : (o : Op) (xs : List Operand) (frame homes at : ℕ) → StayWithin (moves_stack Riscv64 o) (control_items r o xs frame homes at)
-  answered (op.Branch o last) xs frame homes at = branched o xs
-  answered (op.BranchSum o last) xs frame homes at = summed o xs
-  answered (op.Control o last) xs frame homes at = leaps frame o last xs
-  answered (op.Plain o) xs frame homes at = plainly o xs frame homes at
-  answered o xs frame homes at = tt
+  answered : (o : Op) (xs : List Operand) (frame homes saved at : ℕ) → StayWithin (moves_stack Riscv64 o) (control_items r o xs frame homes saved at)
+  answered (op.Branch o last) xs frame homes saved at = branched o xs
+  answered (op.BranchSum o last) xs frame homes saved at = summed o xs
+  answered (op.Control o last) xs frame homes saved at = leaps frame saved o last xs
+  answered (op.Plain o) xs frame homes saved at = plainly o xs frame homes saved at
+  answered o xs frame homes saved at = tt
 
 pub control-items-stay : ControlItemsStay
-control-items-stay r n frame homes at = answered r n.op n.operands frame homes at
+control-items-stay r n frame homes saved at = answered r n.op n.operands frame homes saved at

@@ -20,7 +20,7 @@ use Rattle.lg_carry.specs.Rows.{Rows, AreRows}
 use Rattle.lg_carry.specs.Spills.{Does}
 use Rattle.lg_selr_values.specs.Processor.Computations.{all_compute, computed, computes}
 use Rattle.lg_selr_values.specs.Processor.RvRows.{rv_rows, rv_does, is_straight}
-use Rattle.lg_selr_values.proofs.OfProcessor.ComputationLemmas.{pointwise, put-same, put-other, read-other, computed-append, all-compute-append, and-true, computes-straight, spellings-long}
+use Rattle.lg_selr_values.proofs.OfProcessor.ComputationLemmas.{pointwise, put-same, put-other, read-other, computed-append, all-compute-append, computes-straight, spellings-long}
 use Rattle.lg_selr_values.proofs.OfProcessor.RowLemmas.{went}
 use Rattle.lg_selr_values.proofs.OfProcessor.SlotLemmas.{pc-next, goes-on}
 use Rattle.lg_rv.specs.Spelling.{spelling, IsInstr}
@@ -106,7 +106,7 @@ straight-block (i ∷ j ∷ is) h = let p = and_parts (is_straight i) (list_all 
 
 pub computing-straight : (is : List Instr) → all_compute is ≡ true → list_all is_straight is ≡ true
 computing-straight [] h = refl
-computing-straight (i ∷ is) h = let p = and-true (computes i) (all_compute is) h in ap (λ z. z && list_all is_straight is) (computes-straight i p.0) ∙ computing-straight is p.1
+computing-straight (i ∷ is) h = let p = and_parts (computes i) (all_compute is) h in ap (λ z. z && list_all is_straight is) (computes-straight i p.0) ∙ computing-straight is p.1
 
 -- ---- the two ways
 -- the register of the test is not the base

@@ -3,7 +3,7 @@ use Rattle.lg_sel.specs.RvTouched.{touched, load_width}
 use Rattle.std.proofs.Common.{◌≡◌, ◌≢◌, ℕ, zero, suc, ◌+◌, ◌-◌, ◌*◌, ◌%◌, ◌^◌, ◌<◌, ◌≤◌, Bool, true, false, List, [], ◌∷◌, ◌++◌, Option, Some, refl, sym, ap, ◌∙◌, arith, subst, length, length-append, append_assoc, bit_and}
 use Rattle.std.specs.Prelude.{ℤ, pos, ◌==◌, ◌||◌, ◌&&◌, if◌then◌else◌}
 use Rattle.std.specs.List.{list_all}
-use Rattle.std.proofs.lemmas.Bool.{and_parts}
+use Rattle.std.proofs.lemmas.Bool.{and_parts, or_parts}
 use Rattle.lg_base.specs.Fields.{word_of}
 use Rattle.lg_base.specs.Spaces.{loaded}
 use Rattle.lg_base.specs.Wide.{byte_of}
@@ -38,7 +38,6 @@ use Rattle.lg_selr_values.proofs.OfProcessor.ComputerLemmas.{is-computer}
 use Rattle.lg_selr_values.proofs.OfProcessor.RegisterLemmas.{register-apart, register-nonzero, register-no-stack}
 use Rattle.lg_carry.specs.Nodes.Straight.{is_taken, spoils, from_to}
 use Rattle.lg_carry.specs.Nodes.Stretches.{HasFrame}
-use Rattle.lg_carry.proofs.OfNodes.TemporaryLemmas.{either}
 use Rattle.lg_carry.proofs.OfValues.ComputationLemmas.{computations-do}
 use Rattle.lg_carry.specs.Memory.Accesses.{Address, Base, At, Sum, Index, address_word, IsAddress, LiesAbove}
 use Rattle.lg_carry.specs.Memory.Loads.{IsReadable, LoadCrosses}
@@ -329,7 +328,7 @@ module _ (code : List ℕ) (trash : ℕ) (rows : AreRows (rv_rows code trash) Is
   bytes j few = readable-byte s sp fp a (width t) v j f.seen.bytes readable safe few
 
   spared : (y : ℕ) → T y ≡ false → rv_scratch y ≡ false
-  spared y free = (either (is_taken choices y) (rv_scratch y) free).1
+  spared y free = (or_parts (is_taken choices y) (rv_scratch y) free).1
 
   code-keeps-stack : computed p.code s.registers 2 ≡ sp
   code-keeps-stack = m.keeps 2 (λ e. absurd (omega (arith, e)))

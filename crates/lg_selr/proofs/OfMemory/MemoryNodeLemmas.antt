@@ -2,6 +2,7 @@
 use Rattle.std.proofs.Common.{◌≡◌, ◌≢◌, ℕ, ◌≤◌, inl, inr, Bool, true, false, List, [], ◌∷◌, refl, sym, ap, ◌∙◌, arith, subst, length}
 use Rattle.std.specs.Prelude.{◌==◌, ◌||◌, ◌&&◌, if◌then◌else◌, slice_index_or}
 use Rattle.std.specs.List.{list_any}
+use Rattle.std.proofs.lemmas.Bool.{or_left}
 use Rattle.lg_base.specs.declared.target.Target.TheVariants.{Riscv64}
 use Rattle.lg_carry.specs.Spills.{spilled}
 use Rattle.lg_selr_values.specs.Processor.RvComputers.{rv_scratch}
@@ -85,15 +86,12 @@ spilled-few a bytes choices are = by (bytes == 1) choices are
 clash : {b : Bool} {A : Type 0} → b ≡ true → b ≡ false → A
 clash e h = cc
 
-or-first : (b c : Bool) → b ≡ true → (b || c) ≡ true
-or-first b c e = ap (λ z. z || c) e
-
 -- where several bytes are accessed, the temporary is none of the registers of the node
 temporary-for : (n : Node) (bytes : ℕ) (live : Reg → Bool) (staged : List Bool) (choices : List Choice) (r : Reg) → AreFor (around Riscv64 n live staged) (access_needs bytes) [] (access_needs bytes) choices → IsOf n r
     → (bytes == 1) ≡ false → IsFor (first_taken choices) (register_of Riscv64 r) (spoils rv_scratch choices)
 temporary-for n bytes live staged choices r are of several =
     let m = temporary-apart n live staged choices (subst (λ b. AreFor (around Riscv64 n live staged) (if b then [] else Any ∷ []) [] (if b then [] else Any ∷ []) choices) several are) in
-    record { stack = m.stack; nonzero = m.nonzero; link = m.link; apart = m.apart r of; free = or-first (is_taken choices (first_taken choices)) (rv_scratch (first_taken choices)) m.taken }
+    record { stack = m.stack; nonzero = m.nonzero; link = m.link; apart = m.apart r of; free = or_left (is_taken choices (first_taken choices)) (rv_scratch (first_taken choices)) m.taken }
 
 -- ---- the registers of the node
 names-first : (a : Access) (f : Form) (fs : List Form) (d : Reg) (xs : List Operand) → is_for a f ≡ true → d ≢ Fp → names a (f ∷ fs) (operand.Reg d ∷ xs) d ≡ true
@@ -104,7 +102,7 @@ names-first a f fs d xs here named = or-last (names a fs xs d) (is_for a f) (is_
     or-last false y z e h = rw (e, h) refl
 
 names-later : (a : Access) (f : Form) (fs : List Form) (x : Operand) (xs : List Operand) (r : Reg) → names a fs xs r ≡ true → names a (f ∷ fs) (x ∷ xs) r ≡ true
-names-later a f fs x xs r h = or-first (names a fs xs r) (is_for a f && is_register r x) h
+names-later a f fs x xs r h = or_left (names a fs xs r) (is_for a f && is_register r x) h
 
 -- a load writes its first operand
 load-is-of : (n : Node) (t : ValueType) (at : Addressing) → n.op ≡ op.Load t at → admit (form.Write ∷ address_forms at) n.operands ≡ true → IsOf n (named (operand_at n 0))
@@ -112,7 +110,7 @@ load-is-of n t at e formed =
     let d = starts-written (address_forms at) n.operands formed in
     let first : named (operand_at n 0) ≡ d.register = ap (λ xs. named (slice_index_or xs 0 (operand.Number 0))) d.is in
     let written : names access.Write (forms_of n.op) n.operands d.register ≡ true = (λ j. names access.Write (forms_of (e j)) (d.is j) d.register) ∙ names-first access.Write form.Write (address_forms at) d.register d.rest refl d.named in
-    subst (IsOf n) (sym first) (λ ne. inl (or-first (names access.Write (forms_of n.op) n.operands d.register) _ written))
+    subst (IsOf n) (sym first) (λ ne. inl (or_left (names access.Write (forms_of n.op) n.operands d.register) _ written))
 
 -- a store reads its last one
 record EndsIn (at : Addressing) (xs : List Operand) : Type 0 where

@@ -2,6 +2,7 @@
 use Rattle.std.proofs.Common.{◌≡◌, ◌≢◌, ℕ, ◌+◌, ◌-◌, ◌*◌, ◌%◌, ◌^◌, ◌<◌, ◌⊎◌, inl, inr, Bool, true, false, List, [], ◌∷◌, ◌++◌, refl, sym, ap, ◌∙◌, arith, subst, bit_and}
 use Rattle.std.specs.Prelude.{if◌then◌else◌, ◌==◌, ◌||◌, ◌&&◌, nat_lt, pos, negsuc}
 use Rattle.std.proofs.lemmas.Nat.{and_mask}
+use Rattle.std.proofs.lemmas.Bool.{and_parts, or_cases}
 use Rattle.lg_op.specs.declared.op.ValueType.{ValueType}
 use Rattle.lg_op.specs.declared.op.ValueType.TheVariants as value_type
 use Rattle.lg_op.specs.declared.op.StoreType.{StoreType}
@@ -129,18 +130,13 @@ high-made v high = by (nat_lt (v % 4096) 2048) refl
     by true e = grind (arith, high, e)
     by false e = grind (arith, high, e)
 
-both : (b c : Bool) → (b && c) ≡ true → (b ≡ true) × (c ≡ true)
-both true true e = (refl, refl)
-both true false e = cc
-both false c e = cc
-
 below : (m n : ℕ) → nat_lt m n ≡ true → m < n
 below m n h = grind (arith, h)
 
 absolute-placed : (width v : ℕ) (w : ℕ → ℕ) → IsWidth width → v < 2 ^ 64 → (b : Bool) → is_low width v ≡ b
     → IsPlaced width (if b then record { code = instr.Upper Lui link (high_part v) ∷ []; base = link; offset = low_part v } else at_link (number_code link v)) w v
 absolute-placed width v w is lt true low =
-    let p = both (nat_lt v 0x7FFFF800) (v % width == 0) low in
+    let p = and_parts (nat_lt v 0x7FFFF800) (v % width == 0) low in
     record {
       computes = refl;
       keeps = λ x ne. put-other w 1 (sign_32 (high_part v * 4096)) x ne;
@@ -200,10 +196,6 @@ placed width (Index a v) w is ok words = indexed-placed width a v w is ok (is_sh
 single : (width a : ℕ) → (width == 1) ≡ true → (a % width == 0) ≡ true
 single width a e = let z : width ≡ 1 = grind (arith, e) in ap (λ n. a % n == 0) z ∙ (let y : (a % 1 == 0) ≡ true = grind arith in y)
 
-one-of : (b c : Bool) → (b || c) ≡ true → (b ≡ true) ⊎ (c ≡ true)
-one-of true c e = inl refl
-one-of false c e = inr e
-
 frame-is : (a : Reg) → is_frame a ≡ true → register_of Riscv64 a ≡ 8
 frame-is Fp e = refl
 frame-is R0 e = cc
@@ -214,7 +206,7 @@ frame-is V1 e = cc
 frame-is V2 e = cc
 
 pub whole-even : (width : ℕ) (at : Address) (w : ℕ → ℕ) → IsWidth width → w 8 % 16 ≡ 0 → is_whole width at ≡ true → (address_word Riscv64 w at % width == 0) ≡ true
-whole-even width (Base a) w is fp h = by (one-of (width == 1) (is_frame a) h)
+whole-even width (Base a) w is fp h = by (or_cases (width == 1) (is_frame a) h)
   where
     sixteen : (n : ℕ) → n % 16 ≡ 0 → (n % width == 0) ≡ true
     sixteen n e = each-width (λ m. (n % m == 0) ≡ true) (grind (arith, e)) (grind (arith, e)) (grind (arith, e)) (grind (arith, e)) width is
@@ -224,12 +216,12 @@ whole-even width (Base a) w is fp h = by (one-of (width == 1) (is_frame a) h)
     by (inr e) = sixteen (w (register_of Riscv64 a)) (ap (λ r. w r % 16) (frame-is a e) ∙ fp)
 whole-even width (At v) w is fp h = h
 whole-even width (Sum a b) w is fp h = single width (add_words (w (register_of Riscv64 a)) (w (register_of Riscv64 b))) h
-whole-even width (Index a v) w is fp h = by (one-of (width == 1) (is_frame a && (v % width == 0)) h)
+whole-even width (Index a v) w is fp h = by (or_cases (width == 1) (is_frame a && (v % width == 0)) h)
   where
     by : ((width == 1) ≡ true) ⊎ ((is_frame a && (v % width == 0)) ≡ true) → (add_words (w (register_of Riscv64 a)) v % width == 0) ≡ true
     by (inl e) = single width (add_words (w (register_of Riscv64 a)) v) e
     by (inr e) =
-        let p = both (is_frame a) (v % width == 0) e in
+        let p = and_parts (is_frame a) (v % width == 0) e in
         sum-both width (w (register_of Riscv64 a)) v is (ap (λ r. w r % 16) (frame-is a p.0) ∙ fp) (is-zero (v % width) p.1)
 
 pub frame-whole : (frame : ℕ) (q : Seen) → HasFrame Riscv64 frame q → q.registers 8 % 16 ≡ 0

@@ -3,7 +3,7 @@ use Rattle.lg_sel.specs.RvTouched.{touched}
 use Rattle.std.proofs.Common.{◌≡◌, ◌≢◌, ℕ, zero, suc, ◌+◌, ◌-◌, ◌*◌, ◌/◌, ◌%◌, ◌^◌, ◌<◌, ◌≤◌, ◌⊎◌, inl, inr, bit_and, Bool, true, false, List, [], ◌∷◌, ◌++◌, Option, refl, sym, ap, ◌∙◌, arith, subst, length, append_assoc}
 use Rattle.std.specs.Prelude.{ℤ, pos, ◌==◌, is_some, if◌then◌else◌}
 use Rattle.std.specs.List.{list_all}
-use Rattle.std.proofs.lemmas.Bool.{cases_lt}
+use Rattle.std.proofs.lemmas.Bool.{cases_lt, or_parts}
 use Rattle.lg_base.specs.Fields.{word_of}
 use Rattle.lg_base.specs.Spaces.{mapped, stored}
 use Rattle.lg_base.specs.Words.{add_words, shifted_left, shifted_right}
@@ -43,7 +43,6 @@ use Rattle.lg_selr_values.proofs.OfProcessor.RegisterLemmas.{register-apart, rea
 use Rattle.lg_carry.specs.Nodes.Straight.{is_taken, spoils, from_to}
 use Rattle.lg_carry.specs.Nodes.Stretches.{HasFrame}
 use Rattle.lg_carry.proofs.OfNodes.ByteLemmas.{stored-same}
-use Rattle.lg_carry.proofs.OfNodes.TemporaryLemmas.{either}
 use Rattle.lg_carry.proofs.OfValues.ComputationLemmas.{computations-do}
 use Rattle.lg_carry.specs.Memory.Accesses.{Address, address_word, IsAddress, LiesAbove}
 use Rattle.lg_carry.specs.Memory.Stores.{IsWritable, IsOffSlots, StoreCrosses}
@@ -412,7 +411,7 @@ module _ (code : List ℕ) (trash : ℕ) (rows : AreRows (rv_rows code trash) Is
   code-keeps-stack = m.keeps 2 (λ e. absurd (omega (arith, e)))
 
   spared : (y : ℕ) → T y ≡ false → rv_scratch y ≡ false
-  spared y free = (either (is_taken choices y) (rv_scratch y) free).1
+  spared y free = (or_parts (is_taken choices y) (rv_scratch y) free).1
 
   alone : (a % store_width t == 0) ≡ true → CrossesCode (rv_rows code trash) IsInstr (from_to s s.registers M s.flags) (p.code ++ last ∷ []) fp (spilled choices) T
   alone even =

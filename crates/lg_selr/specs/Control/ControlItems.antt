@@ -89,45 +89,45 @@ result_items (operand.Reg a) = One (instr.Imm Addi 10 (register_of Riscv64 a) (p
 result_items (operand.Label l) = Address 10 l.0 ∷ []
 result_items x = word_items 10 (immediate x)
 
-abbrev pub ret_items : ℕ → List Operand → List Item
-ret_items frame (x ∷ []) = result_items x ++ ones (return_code frame)
-ret_items frame xs = []
+abbrev pub ret_items : ℕ → ℕ → List Operand → List Item
+ret_items frame saved (x ∷ []) = result_items x ++ ones (return_code saved frame)
+ret_items frame saved xs = []
 
 -- a jump to the word of a register, which puts the address behind it into another
 abbrev pub register_leap_items : ℕ → List Operand → List Item
 register_leap_items rd (operand.Reg a ∷ []) = ones (register_leap_code rd a)
 register_leap_items rd xs = []
 
-abbrev pub leap_items : Reach → ℕ → ControlOp → LastOperand → List Operand → List Item
-leap_items r frame control.Jmp last_operand.Immediate xs = jump_items r xs
-leap_items r frame control.Jmp last_operand.Register xs = register_leap_items 0 xs
-leap_items r frame control.Call last_operand.Immediate xs = call_items r xs
-leap_items r frame control.Call last_operand.Register xs = register_leap_items 1 xs
-leap_items r frame control.Finish last_operand.Immediate xs = call_items r xs
-leap_items r frame control.Finish last_operand.Register xs = register_leap_items 1 xs
-leap_items r frame control.Ret last xs = ret_items frame xs
-leap_items r frame o last xs = []
+abbrev pub leap_items : Reach → ℕ → ℕ → ControlOp → LastOperand → List Operand → List Item
+leap_items r frame saved control.Jmp last_operand.Immediate xs = jump_items r xs
+leap_items r frame saved control.Jmp last_operand.Register xs = register_leap_items 0 xs
+leap_items r frame saved control.Call last_operand.Immediate xs = call_items r xs
+leap_items r frame saved control.Call last_operand.Register xs = register_leap_items 1 xs
+leap_items r frame saved control.Finish last_operand.Immediate xs = call_items r xs
+leap_items r frame saved control.Finish last_operand.Register xs = register_leap_items 1 xs
+leap_items r frame saved control.Ret last xs = ret_items frame saved xs
+leap_items r frame saved o last xs = []
 
 -- ---- the others
 abbrev pub align_items : ℕ → List Operand → List Item
 align_items at (operand.Number n ∷ []) = ones (align_code at n)
 align_items at xs = []
 
-abbrev pub plain_items : PlainOp → List Operand → ℕ → ℕ → ℕ → List Item
-plain_items plain.Prolog xs frame homes at = ones (prolog_code frame homes)
-plain_items plain.Epilog xs frame homes at = ones (return_code frame)
-plain_items plain.Ret xs frame homes at = ones (return_code frame)
-plain_items plain.Align xs frame homes at = align_items at xs
-plain_items o xs frame homes at = []
+abbrev pub plain_items : PlainOp → List Operand → ℕ → ℕ → ℕ → ℕ → List Item
+plain_items plain.Prolog xs frame homes saved at = ones (prolog_code saved frame homes)
+plain_items plain.Epilog xs frame homes saved at = ones (return_code saved frame)
+plain_items plain.Ret xs frame homes saved at = ones (return_code saved frame)
+plain_items plain.Align xs frame homes saved at = align_items at xs
+plain_items o xs frame homes saved at = []
 
--- ---- of a node in a function with a frame of so many bytes and so many homes that are read, whose code begins at an address, or a place of the buffer,
--- and has a reach
-abbrev pub control_items : Reach → Op → List Operand → ℕ → ℕ → ℕ → List Item
-control_items r (op.Branch o last) xs frame homes at = branch_items r o xs
-control_items r (op.BranchSum o last) xs frame homes at = sum_items r o xs
-control_items r (op.Control o last) xs frame homes at = leap_items r frame o last xs
-control_items r (op.Plain o) xs frame homes at = plain_items o xs frame homes at
-control_items r o xs frame homes at = []
+-- ---- of a node in a function with a frame of so many bytes and so many homes that are read, which saves so many of V0 to V2, whose code begins at an
+-- address, or a place of the buffer, and has a reach
+abbrev pub control_items : Reach → Op → List Operand → ℕ → ℕ → ℕ → ℕ → List Item
+control_items r (op.Branch o last) xs frame homes saved at = branch_items r o xs
+control_items r (op.BranchSum o last) xs frame homes saved at = sum_items r o xs
+control_items r (op.Control o last) xs frame homes saved at = leap_items r frame saved o last xs
+control_items r (op.Plain o) xs frame homes saved at = plain_items o xs frame homes saved at
+control_items r o xs frame homes saved at = []
 
 -- the operations whose nodes have these items
 abbrev pub is_control : Op → Bool

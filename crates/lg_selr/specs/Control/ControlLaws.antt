@@ -20,7 +20,7 @@ ends_in_label xs = target_control.ends_in_label xs
 
 abbrev pub ControlNodesCarry : Type 0
 ControlNodesCarry =
-    (r : Reach) (code : List ℕ) (trash : ℕ) (c : Code) (i : ℕ) (n : Node) (frame homes : ℕ) (S : ℕ → Bool) → is_control n.op ≡ true → HasPlaces 4 c
-    → AreWords c.addresses n.operands → ends_in_label n.operands ≡ false → IsFrameOf c i frame → IsHomesOf c i homes → IsInText c i n
-    → StandsInCode code trash c i (settled (slice_index c.addresses) (c.place i) (control_items r n.op n.operands frame homes (c.place i)))
+    (r : Reach) (code : List ℕ) (trash : ℕ) (c : Code) (i : ℕ) (n : Node) (frame homes saved : ℕ) (S : ℕ → Bool) → is_control n.op ≡ true → HasPlaces 4 c
+    → AreWords c.addresses n.operands → ends_in_label n.operands ≡ false → IsFrameOf c i frame → IsHomesOf c i homes → c.saved ≡ saved → IsInText c i n
+    → StandsInCode code trash c i (settled (slice_index c.addresses) (c.place i) (control_items r n.op n.operands frame homes saved (c.place i)))
     → CarriesNode (rv_processor code trash) c i n S

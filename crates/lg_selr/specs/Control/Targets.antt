@@ -17,9 +17,9 @@ use Rattle.lg_selr.specs.Control.RegisterLeaps.{register_jump_code, register_cal
 use Rattle.lg_selr.specs.Control.Returns.{returned_code}
 use Rattle.lg_selr.specs.Control.TwoWays.{branch_code, sum_branch_code}
 
--- with this reach
-abbrev pub rv_control : Reach → Codes Instr
-rv_control r = record {
+-- with this reach, where frames save so many of V0 to V2
+abbrev pub rv_control : ℕ → Reach → Codes Instr
+rv_control saved r = record {
   branch = branch_code r;
   sum_branch = sum_branch_code r;
   jump = jump_code r;
@@ -27,13 +27,14 @@ rv_control r = record {
   call = call_code r;
   host_call = host_code;
   register_call = register_call_code;
-  ret = returned_code;
-  prolog = prolog_code;
+  ret = returned_code saved;
+  prolog = prolog_code saved;
   align = align_code;
 }
 
-abbrev pub IsRv : Reach → List ℕ → ℕ → Type 0
-IsRv r code trash = Controls (rv_rows code trash) rv_scratch IsInstr rv_ready (rv_control r)
+abbrev pub IsRv : ℕ → Reach → List ℕ → ℕ → Type 0
+IsRv saved r code trash = Controls (rv_rows code trash) rv_scratch IsInstr rv_ready saved (rv_control saved r)
 
 abbrev pub IsTarget : Type 0
-IsTarget = (r : Reach) (code : List ℕ) (trash : ℕ) → length code ≤ most_code → AreBytes code → trash < 2 ^ 64 → IsRv r code trash
+IsTarget =
+    (saved : ℕ) (r : Reach) (code : List ℕ) (trash : ℕ) → length code ≤ most_code → AreBytes code → trash < 2 ^ 64 → IsRv saved r code trash

@@ -6,10 +6,11 @@ ghost use Rattle.lg_base.specs.declared.target.Target.TheVariants.{Riscv64};
 ghost use Rattle.lg_selr_values.specs.Processor.Numbers.{high_part, low_part};
 ghost use Rattle.lg_op.specs.declared.form.Form.TheVariants as form;
 ghost use Rattle.lg_selr.specs.Control.ControlItems.{align_items, plain_items};
-ghost use Rattle.lg_selr.specs.Control.Prologs.{stored_registers, store_word, stores_below, fall_code, framed_code, prolog_code};
-ghost use Rattle.lg_selr.specs.Control.Returns.{near_return, far_return, return_code};
+ghost use Rattle.lg_selr.specs.Control.Prologs.{first_registers, home_registers, store_word, stores_below, fall_code, framed_code, prolog_code};
+ghost use Rattle.lg_selr.specs.Control.Returns.{restores, near_return, far_return, leaving_code, return_code};
 ghost use Rattle.lg_selr_values.specs.Items.{words_in, ones};
 ghost use Rattle.lg_op.specs.Forms.{admit, plain_forms};
+ghost use Rattle.lg_sel.specs.Control.Stores.{kept_registers};
 
 use lg_op::{Operand, PlainOp};
 use lg_rv::{ImmOp, Instr, RegOp, StoreOp, UpperOp};
@@ -41,15 +42,22 @@ fn store(first: u32, reg: u8, word: u32) -> Instr
     }
 }
 
-// What each `prolog` stores: the link, FP, V0, V1 and V2.
-fn saves(first: u32) -> [Instr; 5]
+// What each `prolog` stores: the link and FP.
+fn link_stores(first: u32) -> [Instr; 2]
     requires large { 104 ≤ first }
     requires small { first ≤ 2048 }
-    ensures { result ≡ stores_below first (stored_registers 0) 0 }
+    ensures { result ≡ stores_below first (first_registers 0) 0 }
+{
+    [store(first, LINK, 0), store(first, FRAME_POINTER, 1)]
+}
+
+// The stores of V0, V1 and V2.
+fn saves(first: u32) -> [Instr; 3]
+    requires large { 104 ≤ first }
+    requires small { first ≤ 2048 }
+    ensures { result ≡ stores_below first (kept_registers Riscv64 3) 2 }
 {
     [
-        store(first, LINK, 0),
-        store(first, FRAME_POINTER, 1),
         store(first, V0, 2),
         store(first, V1, 3),
         store(first, V2, 4),
@@ -116,30 +124,31 @@ fn put_fall(size: u32, items: &mut Items<Item>)
     }
 }
 
-// Appends the stores of a `prolog` with so many homes.
+// Appends the stores of a `prolog` with so many homes, which saves so many of V0 to V2.
 #[tactic(auto, using(lg_selr_values::proofs::ItemLemmas::words_append))]
-fn put_stores(first: u32, homes: u32, items: &mut Items<Item>)
+fn put_stores(first: u32, homes: u32, saved: u32, items: &mut Items<Item>)
     requires room { words_in items.old ≤ 50 }
     requires large { 104 ≤ first }
     requires small { first ≤ 2048 }
-    ensures stored { items.new ≡ items.old ++ ones (stores_below first (stored_registers homes) 0) }
+    ensures stored { items.new ≡ items.old ++ ones (stores_below first (first_registers saved) 0 ++ stores_below first (home_registers homes) 5) }
     ensures few { words_in items.new ≤ words_in items.old + 13 }
 {
-    items.all(&saves(first));
+    items.all(&link_stores(first));
+    items.all(&saves(first)[..saved.min(3) as usize]);
     items.all(&home_stores(first)[..homes.min(8) as usize]);
 }
 
-// Appends the fall of the stack pointer by so much of a frame, its words, with so many homes, and FP to none.
+// Appends the fall of the stack pointer by so much of a frame, its words, with so many of V0 to V2 and so many homes, and FP to none.
 #[tactic(auto, using(lg_selr_values::proofs::ItemLemmas::words_append))]
-fn put_words(first: u32, homes: u32, items: &mut Items<Item>)
+fn put_words(first: u32, homes: u32, saved: u32, items: &mut Items<Item>)
     requires empty { items.old ≡ [] }
     requires large { 104 ≤ first }
     requires small { first ≤ 2048 }
-    ensures framed { items.new ≡ ones (framed_code first homes []) }
+    ensures framed { items.new ≡ ones (framed_code saved first homes []) }
     ensures few { words_in items.new ≤ 15 }
 {
     items.one(short_fall(first));
-    put_stores(first, homes, items);
+    put_stores(first, homes, saved, items);
     items.one(imm(
         ImmOp::Addi,
         FRAME_POINTER,
@@ -148,31 +157,39 @@ fn put_words(first: u32, homes: u32, items: &mut Items<Item>)
     ));
 }
 
-// Appends the code of a `prolog` with so many homes to none.
+// Appends the code of a `prolog` with so many homes, which saves so many of V0 to V2, to none.
 #[tactic(auto, using(lg_selr_values::proofs::ItemLemmas::words_append))]
-fn put_prolog(size: u32, homes: u32, items: &mut Items<Item>)
+fn put_prolog(size: u32, homes: u32, saved: u32, items: &mut Items<Item>)
     requires empty { items.old ≡ [] }
     requires large { 272 ≤ size }
     requires small { size < 0x4000_0000 }
-    ensures { items.new ≡ ones (prolog_code size homes) }
+    ensures { items.new ≡ ones (prolog_code saved size homes) }
 {
     if size <= 2048 {
-        put_words(size, homes, items);
+        put_words(size, homes, saved, items);
     } else {
-        put_words(2048, homes, items);
+        put_words(2048, homes, saved, items);
         put_fall(size - 2048, items);
     }
 }
 
-// What a return does in a frame whose size is a number of 12 bits.
-fn near_return(size: u32) -> [Instr; 7]
-    requires { size < 2048 }
-    ensures { result ≡ near_return size }
+// V0, V1 and V2 come back.
+fn restores() -> [Instr; 3]
+    ensures { result ≡ restores 3 }
 {
     [
         imm(ImmOp::Ld, V0, FRAME_POINTER, -8),
         imm(ImmOp::Ld, V1, FRAME_POINTER, -16),
         imm(ImmOp::Ld, V2, FRAME_POINTER, -24),
+    ]
+}
+
+// What a return does behind them in a frame whose size is a number of 12 bits.
+fn near_return(size: u32) -> [Instr; 4]
+    requires { size < 2048 }
+    ensures { result ≡ near_return size }
+{
+    [
         imm(ImmOp::Ld, LINK, FRAME_POINTER, 8),
         imm(ImmOp::Ld, FRAME_POINTER, FRAME_POINTER, 0),
         imm(ImmOp::Addi, STACK_POINTER, STACK_POINTER, size as i32),
@@ -181,13 +198,10 @@ fn near_return(size: u32) -> [Instr; 7]
 }
 
 // And in a larger one.
-fn far_return() -> [Instr; 8]
+fn far_return() -> [Instr; 5]
     ensures { result ≡ far_return }
 {
     [
-        imm(ImmOp::Ld, V0, FRAME_POINTER, -8),
-        imm(ImmOp::Ld, V1, FRAME_POINTER, -16),
-        imm(ImmOp::Ld, V2, FRAME_POINTER, -24),
         imm(ImmOp::Ld, LINK, FRAME_POINTER, 8),
         imm(ImmOp::Addi, STACK_POINTER, FRAME_POINTER, 0),
         imm(ImmOp::Ld, FRAME_POINTER, STACK_POINTER, 0),
@@ -196,16 +210,35 @@ fn far_return() -> [Instr; 8]
     ]
 }
 
-// Appends a return from a frame of so many bytes.
-pub(crate) fn put_return(frame: u32, items: &mut Items<Item>)
+// Appends what comes back of V0 to V2, of so many.
+#[tactic(auto, using(lg_selr_values::proofs::ItemLemmas::words_append))]
+fn put_restores(saved: u32, items: &mut Items<Item>)
     requires { words_in items.old ≤ 50 }
-    ensures { items.new ≡ items.old ++ ones (return_code frame) }
+    ensures restored { items.new ≡ items.old ++ ones (restores saved) }
+    ensures few { words_in items.new ≤ words_in items.old + 3 }
+{
+    items.all(&restores()[..saved.min(3) as usize]);
+}
+
+// Appends what leaves a frame of so many bytes.
+fn put_leaving(frame: u32, items: &mut Items<Item>)
+    requires { words_in items.old ≤ 53 }
+    ensures { items.new ≡ items.old ++ ones (leaving_code frame) }
 {
     if frame < 2048 {
         items.all(&near_return(frame));
     } else {
         items.all(&far_return());
     }
+}
+
+// Appends a return from a frame of so many bytes, which saves so many of V0 to V2.
+pub(crate) fn put_return(frame: u32, saved: u32, items: &mut Items<Item>)
+    requires { words_in items.old ≤ 50 }
+    ensures { items.new ≡ items.old ++ ones (return_code saved frame) }
+{
+    put_restores(saved, items);
+    put_leaving(frame, items);
 }
 
 // Appends the items of `.align` to none.
@@ -230,6 +263,7 @@ pub(crate) fn put_plain(
     operands: &[Operand],
     frame: u32,
     homes: u32,
+    saved: u32,
     place: u32,
     items: &mut Items<Item>,
 )
@@ -237,11 +271,11 @@ pub(crate) fn put_plain(
     requires formed { admit (plain_forms op) operands.now ≡ true }
     requires large { 272 ≤ frame }
     requires small { frame < 0x4000_0000 }
-    ensures { items.new ≡ plain_items op operands.now frame homes place }
+    ensures { items.new ≡ plain_items op operands.now frame homes saved place }
 {
     match op {
-        PlainOp::Prolog => put_prolog(frame, homes, items),
-        PlainOp::Epilog | PlainOp::Ret => put_return(frame, items),
+        PlainOp::Prolog => put_prolog(frame, homes, saved, items),
+        PlainOp::Epilog | PlainOp::Ret => put_return(frame, saved, items),
         PlainOp::Align => put_align(place, operands, items),
         _ => {}
     }

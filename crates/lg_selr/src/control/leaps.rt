@@ -89,14 +89,14 @@ fn put_result(operand: Operand, items: &mut Items<Item>)
 }
 
 // Appends the items of `retr` and `reti` to none.
-fn put_ret(frame: u32, operands: &[Operand], items: &mut Items<Item>)
+fn put_ret(frame: u32, saved: u32, operands: &[Operand], items: &mut Items<Item>)
     requires { items.old ≡ [] }
-    ensures { items.new ≡ ret_items frame operands.now }
+    ensures { items.new ≡ ret_items frame saved operands.now }
 {
     match operands {
         [operand] => {
             put_result(*operand, items);
-            put_return(frame, items);
+            put_return(frame, saved, items);
         }
         _ => {}
     }
@@ -106,13 +106,14 @@ fn put_ret(frame: u32, operands: &[Operand], items: &mut Items<Item>)
 pub(crate) fn put_leap(
     reach: Reach,
     frame: u32,
+    saved: u32,
     op: ControlOp,
     last: LastOperand,
     operands: &[Operand],
     items: &mut Items<Item>,
 )
     requires { items.old ≡ [] }
-    ensures { items.new ≡ leap_items reach frame op last operands.now }
+    ensures { items.new ≡ leap_items reach frame saved op last operands.now }
 {
     match (op, last) {
         (ControlOp::Jmp, LastOperand::Immediate) => put_jump(reach, operands, items),
@@ -123,7 +124,7 @@ pub(crate) fn put_leap(
         (ControlOp::Call | ControlOp::Finish, LastOperand::Register) => {
             put_register_leap(LINK, operands, items)
         }
-        (ControlOp::Ret, _) => put_ret(frame, operands, items),
+        (ControlOp::Ret, _) => put_ret(frame, saved, operands, items),
         _ => {}
     }
 }

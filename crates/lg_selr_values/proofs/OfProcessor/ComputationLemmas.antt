@@ -4,6 +4,7 @@ use Rattle.lg_carry.proofs.BlockLemmas.{nothing-off}
 use Rattle.lg_carry.specs.Processors.{IsOff}
 use Rattle.std.proofs.Common.{◌≡◌, ◌≢◌, ℕ, ◌+◌, ◌*◌, Bool, true, false, List, [], ◌∷◌, ◌++◌, refl, ap, ◌∙◌, arith, length, append-nil}
 use Rattle.std.specs.Prelude.{◌==◌, ◌&&◌, if◌then◌else◌}
+use Rattle.std.proofs.lemmas.Bool.{and_parts}
 use Rattle.lg_base.specs.Runs.{Running}
 use Rattle.lg_base.specs.Words.{add_words}
 use Rattle.lg_rv.specs.Spelling.{spelling}
@@ -54,13 +55,9 @@ pub computed-append : (xs ys : List Instr) (w : ℕ → ℕ) → computed (xs ++
 computed-append [] ys w = refl
 computed-append (x ∷ xs) ys w = computed-append xs ys (computed_by x w)
 
-pub and-true : (b c : Bool) → (b && c) ≡ true → (b ≡ true) × (c ≡ true)
-and-true true c e = (refl, e)
-and-true false c e = cc
-
 pub all-compute-append : (xs ys : List Instr) → all_compute xs ≡ true → all_compute ys ≡ true → all_compute (xs ++ ys) ≡ true
 all-compute-append [] ys h k = k
-all-compute-append (x ∷ xs) ys h k = let b = and-true (computes x) (all_compute xs) h in ap (λ z. z && all_compute (xs ++ ys)) b.0 ∙ all-compute-append xs ys b.1 k
+all-compute-append (x ∷ xs) ys h k = let b = and_parts (computes x) (all_compute xs) h in ap (λ z. z && all_compute (xs ++ ys)) b.0 ∙ all-compute-append xs ys b.1 k
 
 pub spellings-long : (is : List Instr) → length (spellings spelling is) ≡ 4 * length is
 spellings-long [] = refl
@@ -133,7 +130,7 @@ computes-above i q h = computes-off _ i q.state.registers h
 pub computations-run : ComputationsRun
 computations-run [] q h runs low high = record { through = tt; runs = runs; behind = omega arith; registers = λ r. refl; bytes = λ a. refl; mark = refl; out = refl }
 computations-run (i ∷ is) q h runs low high =
-    let b = and-true (computes i) (all_compute is) h in
+    let b = and_parts (computes i) (all_compute is) h in
     let e : rv_does i q ≡ after q (goes (add_words q.state.pc 4) (computed_by i q.state.registers) q.state.bytes q.state.mark) = went q (act i q.state) runs ∙ ap (after q) (computes-act i q.state b.0) in
     let pc : (rv_does i q).state.pc ≡ q.state.pc + 4 = ap (λ s. s.state.pc) e ∙ pc-next q.state.pc (omega (arith, high)) in
     let goes : status_of (rv_does i q).progress ≡ Running = ap (λ s. status_of s.progress) e ∙ goes-on q.state.pc low (omega (arith, high)) in

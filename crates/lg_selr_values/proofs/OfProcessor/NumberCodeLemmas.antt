@@ -3,6 +3,7 @@ use Rattle.std.proofs.Common.{◌≡◌, ◌≢◌, ℕ, zero, suc, ◌+◌, ◌
 use Rattle.std.specs.Prelude.{◌==◌, nat_lt, pos, negsuc, if◌then◌else◌, ◌≤ℤ◌}
 use Rattle.std.proofs.lemmas.List.Elements.{All-head, All-tail}
 use Rattle.std.specs.List.{All}
+use Rattle.std.proofs.lemmas.Bool.{and_parts}
 use Rattle.lg_base.specs.Fields.{word_of}
 use Rattle.lg_base.specs.Words.{add_words, sign_32, shifted_left, is_half}
 use Rattle.lg_rv.specs.Spelling.{IsInstr}
@@ -15,7 +16,7 @@ use Rattle.lg_cpu.specs.HostSteps.{put}
 use Rattle.lg_selr_values.specs.Processor.RvRows.{is_straight}
 use Rattle.lg_selr_values.specs.Processor.Computations.{computed, computes, all_compute}
 use Rattle.lg_selr_values.specs.Processor.Numbers.{is_short, high_part, low_part, short_code, half_code, above, low_code, wide_code, long_code, number_code, LoadsNumber, NumbersAreLoaded}
-use Rattle.lg_selr_values.proofs.OfProcessor.ComputationLemmas.{put-again, and-true, computes-straight, computed-append, all-compute-append}
+use Rattle.lg_selr_values.proofs.OfProcessor.ComputationLemmas.{put-again, computes-straight, computed-append, all-compute-append}
 
 -- ---- words
 pub low-small : (v : ℕ) → (negsuc 2047 ≤ℤ low_part v) × (low_part v ≤ℤ pos 2047)
@@ -118,7 +119,7 @@ all-cons P x xs h hs (suc k) d lt = hs k d (omega (arith, lt))
 
 all-straight : (is : List Instr) → all_compute is ≡ true → All (λ i. is_straight i ≡ true) is
 all-straight [] h = all-nil (λ i. is_straight i ≡ true)
-all-straight (i ∷ is) h = let b = and-true (computes i) (all_compute is) h in all-cons (λ x. is_straight x ≡ true) i is (computes-straight i b.0) (all-straight is b.1)
+all-straight (i ∷ is) h = let b = and_parts (computes i) (all_compute is) h in all-cons (λ x. is_straight x ≡ true) i is (computes-straight i b.0) (all-straight is b.1)
 
 shift-fits : (rd n : ℕ) → rd < 32 → n < 64 → IsInstr (Shift Slli rd rd n)
 shift-fits rd n h lt = (h, h, lt, λ e. absurd (omega (arith, e)))

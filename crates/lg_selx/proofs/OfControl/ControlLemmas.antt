@@ -21,7 +21,7 @@ use Rattle.lg_carry.specs.Blocks.{spellings}
 use Rattle.lg_carry.specs.Passages.{IsNodeCode}
 use Rattle.lg_selx_values.specs.Processor.X86Computers.{x86_scratch}
 use Rattle.lg_selx_values.specs.Processor.X86Rows.{x86_rows}
-use Rattle.lg_sel.specs.Control.Control.{control_code, branch_of, sum_branch_of, leap_of, jump_of, call_of, return_of, returned_of, plain_of, align_of}
+use Rattle.lg_sel.specs.Control.Control.{Codes, control_code, branch_of, sum_branch_of, leap_of, jump_of, call_of, return_of, returned_of, plain_of, align_of}
 use Rattle.lg_sel.specs.Control.Control as target_control
 use Rattle.lg_sel.proofs.OfControl.ControlLemmas as target_lemmas
 use Rattle.lg_selx_values.specs.declared.items.Item.{Item}
@@ -39,7 +39,9 @@ use Rattle.lg_selx.specs.Control.ControlLaws.{ControlNodesCarry}
 use Rattle.lg_selx.specs.Control.HostCalls.{host_code, x86_ready}
 use Rattle.lg_selx.specs.Control.Prologs.{prolog_code}
 use Rattle.lg_selx.specs.Control.RegisterLeaps.{register_call_code}
-use Rattle.lg_selx.specs.Control.Returns.{return_code}
+use Rattle.lg_sel.specs.Control.Returns.{OfRegister, OfNumber, OfLabel}
+use Rattle.lg_base.specs.HostNames.{host_address}
+use Rattle.lg_selx.specs.Control.Returns.{result_code, return_code}
 use Rattle.lg_selx.specs.Control.SumBranches.{before_sum_branch, sum_taken}
 use Rattle.lg_selx.specs.Control.Targets.{x86_control}
 use Rattle.lg_selx.specs.Control.TwoWays.{jump_if, branch_if}
@@ -70,45 +72,54 @@ jump-settled-plain Near to at l = refl
 jump-settled-plain Far to at l = refl
 
 -- ---- the items of a node are its code
-module _ (r : Reach) (to : ℕ → ℕ) (frame homes at : ℕ) where
-  branches : (o : Condition) (xs : List Operand) → settled to at (branch_items r frame o xs) ≡ branch_of (x86_control r) to frame at o xs
+module _ (r : Reach) (saved : ℕ) (to : ℕ → ℕ) (frame homes at : ℕ) where
+  abbrev C : Codes Instr
+  C = x86_control r saved
+
+  branches : (o : Condition) (xs : List Operand) → settled to at (branch_items r frame o xs) ≡ branch_of C to frame at o xs
   branches o (operand.Label l ∷ operand.Reg a ∷ x ∷ []) = branch-settled r to at (before_branch frame o a x) (taken o) l
   branches o xs = refl
 
-  sum-branches : (o : BranchSumOp) (xs : List Operand) → settled to at (sum_items r frame o xs) ≡ sum_branch_of (x86_control r) to frame at o xs
+  sum-branches : (o : BranchSumOp) (xs : List Operand) → settled to at (sum_items r frame o xs) ≡ sum_branch_of C to frame at o xs
   sum-branches o (operand.Label l ∷ operand.Reg a ∷ x ∷ []) = branch-settled r to at (before_sum_branch frame o a x) (sum_taken o) l
   sum-branches o xs = refl
 
-  jumps : (xs : List Operand) → settled to at (jump_items r xs) ≡ jump_of (x86_control r) to at xs
+  jumps : (xs : List Operand) → settled to at (jump_items r xs) ≡ jump_of C to at xs
   jumps (operand.Label l ∷ []) = jump-settled-plain r to at l
   jumps xs = refl
 
-  calls : (xs : List Operand) → settled to at (call_items xs) ≡ call_of (x86_control r) to at xs
+  calls : (xs : List Operand) → settled to at (call_items xs) ≡ call_of C to at xs
   calls (operand.Label l ∷ []) = refl
   calls (operand.Host name ∷ []) = settled-ones to at (host_code name)
   calls xs = refl
 
-  register-jumps : (xs : List Operand) → settled to at (register_jump_items xs) ≡ target_control.register_leap_of (x86_control r).register_jump frame xs
+  register-jumps : (xs : List Operand) → settled to at (register_jump_items xs) ≡ target_control.register_leap_of C.register_jump frame xs
   register-jumps (operand.Reg a ∷ []) = refl
   register-jumps xs = refl
 
-  register-calls : (xs : List Operand) → settled to at (register_call_items xs) ≡ target_control.register_leap_of (x86_control r).register_call frame xs
+  register-calls : (xs : List Operand) → settled to at (register_call_items xs) ≡ target_control.register_leap_of C.register_call frame xs
   register-calls (operand.Reg a ∷ []) = settled-ones to at (register_call_code frame a)
   register-calls xs = refl
 
-  results : (x : Operand) → settled to at (result_items x ++ ones return_code) ≡ (x86_control r).ret frame (returned_of to x)
-  results (operand.Reg R0) = refl
-  results (operand.Reg a) = refl
-  results (operand.Number v) = refl
-  results (operand.Host name) = refl
-  results (operand.Label l) = refl
-  results (operand.Slot k) = refl
+  -- a return behind items that become this code
+  returns-behind : (xs : List Item) (is : List Instr) → settled to at xs ≡ is → settled to at (xs ++ ones (return_code saved)) ≡ is ++ return_code saved
+  returns-behind xs is e =
+      settled-append to at xs (ones (return_code saved)) ∙ ap (λ z. z ++ settled to (at + length (blanks xs)) (ones (return_code saved))) e
+      ∙ ap (λ z. is ++ z) (settled-ones to (at + length (blanks xs)) (return_code saved))
 
-  returns : (xs : List Operand) → settled to at (ret_items xs) ≡ return_of (x86_control r) to frame xs
+  results : (x : Operand) → settled to at (result_items x ++ ones (return_code saved)) ≡ C.ret frame (returned_of to x)
+  results (operand.Reg R0) = returns-behind [] [] refl
+  results (operand.Reg a) = returns-behind (result_items (operand.Reg a)) (result_code (OfRegister a)) refl
+  results (operand.Number v) = returns-behind (result_items (operand.Number v)) (result_code (OfNumber v)) refl
+  results (operand.Host name) = returns-behind (result_items (operand.Host name)) (result_code (OfNumber (host_address name))) refl
+  results (operand.Label l) = returns-behind (result_items (operand.Label l)) (result_code (OfLabel (to l.0))) refl
+  results (operand.Slot k) = returns-behind [] [] refl
+
+  returns : (xs : List Operand) → settled to at (ret_items saved xs) ≡ return_of C to frame xs
   returns (x ∷ []) = results x
   returns xs = refl
 
-  leaps : (o : ControlOp) (last : LastOperand) (xs : List Operand) → settled to at (leap_items r o last xs) ≡ leap_of (x86_control r) to frame at o last xs
+  leaps : (o : ControlOp) (last : LastOperand) (xs : List Operand) → settled to at (leap_items r saved o last xs) ≡ leap_of C to frame at o last xs
   leaps control.Jmp last_operand.Immediate xs = jumps xs
   leaps control.Jmp last_operand.Register xs = register-jumps xs
   leaps control.Call last_operand.Immediate xs = calls xs
@@ -118,16 +129,18 @@ module _ (r : Reach) (to : ℕ → ℕ) (frame homes at : ℕ) where
   leaps control.Ret last xs = returns xs
   leaps o last xs = refl
 
-  alignments : (xs : List Operand) → settled to at (align_items at xs) ≡ align_of (x86_control r) at xs
+  alignments : (xs : List Operand) → settled to at (align_items at xs) ≡ align_of C at xs
   alignments (operand.Number n ∷ []) = settled-ones to at (align_code at n)
   alignments xs = refl
 
-  plains : (o : PlainOp) (xs : List Operand) → settled to at (plain_items o xs frame homes at) ≡ plain_of (x86_control r) frame homes at o xs
-  plains plain.Prolog xs = settled-ones to at (prolog_code frame homes)
+  plains : (o : PlainOp) (xs : List Operand) → settled to at (plain_items o xs frame homes saved at) ≡ plain_of C frame homes at o xs
+  plains plain.Prolog xs = settled-ones to at (prolog_code saved frame homes)
+  plains plain.Epilog xs = settled-ones to at (return_code saved)
+  plains plain.Ret xs = settled-ones to at (return_code saved)
   plains plain.Align xs = alignments xs
   plains o xs = refl
 
-  items-are-code : (o : Op) (xs : List Operand) → settled to at (control_items r o xs frame homes at) ≡ control_code (x86_control r) to frame homes at o xs
+  items-are-code : (o : Op) (xs : List Operand) → settled to at (control_items r o xs frame homes saved at) ≡ control_code C to frame homes at o xs
   items-are-code (op.Branch o last) xs = branches o xs
   items-are-code (op.BranchSum o last) xs = sum-branches o xs
   items-are-code (op.Control o last) xs = leaps o last xs
@@ -135,7 +148,7 @@ module _ (r : Reach) (to : ℕ → ℕ) (frame homes at : ℕ) where
   items-are-code o xs = refl
 
 pub control-nodes-carry : ControlNodesCarry
-control-nodes-carry r code trash c i n frame homes S h w v e is-frame is-homes t k =
-    let same = items-are-code r (slice_index c.addresses) frame homes (c.place i) n.op n.operands in
-    target_lemmas.control-nodes-carry (x86_rows code trash) x86_scratch IsInstr x86_ready (x86_control r) (is-target r code trash k.small k.bytes k.word) c i n frame homes S h
-    (has-places code trash c w) v e is-frame is-homes t (subst (IsNodeCode (x86_rows code trash) IsInstr c i) same k.node)
+control-nodes-carry r code trash c i n frame homes saved S h w v e is-frame is-homes is-saved t k =
+    let same = items-are-code r saved (slice_index c.addresses) frame homes (c.place i) n.op n.operands in
+    target_lemmas.control-nodes-carry (x86_rows code trash) x86_scratch IsInstr x86_ready saved (x86_control r saved)
+    (is-target r saved code trash k.small k.bytes k.word) c i n frame homes S h (has-places code trash c w) v e is-frame is-homes is-saved t (subst (IsNodeCode (x86_rows code trash) IsInstr c i) same k.node)

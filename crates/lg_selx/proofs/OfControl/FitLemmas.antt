@@ -1,5 +1,5 @@
 -- The items of the nodes can be appended to a buffer.
-use Rattle.std.proofs.Common.{◌≡◌, ℕ, zero, suc, ◌+◌, ◌-◌, ◌*◌, ◌%◌, ◌^◌, ◌<◌, ◌≤◌, Bool, true, false, List, [], ◌∷◌, ◌++◌, refl, sym, ap, subst, arith, length}
+use Rattle.std.proofs.Common.{◌≡◌, ℕ, zero, suc, ◌+◌, ◌-◌, ◌*◌, ◌%◌, ◌^◌, ◌<◌, ◌≤◌, Bool, true, false, List, [], ◌∷◌, ◌++◌, refl, sym, ap, subst, arith, length, length-append}
 use Rattle.std.specs.Prelude.{◌==◌, ◌&&◌, if◌then◌else◌, negsuc, pos, nat_lt}
 use Rattle.std.specs.List.{list_all}
 use Rattle.std.proofs.lemmas.List.{length-take}
@@ -25,8 +25,9 @@ use Rattle.lg_op.specs.declared.operand.Label.{Label}
 use Rattle.lg_op.specs.declared.operand.Operand.{Operand}
 use Rattle.lg_op.specs.declared.operand.Operand.TheVariants as operand
 use Rattle.lg_op.specs.declared.operand.Reg.{Reg}
-use Rattle.lg_x86.specs.Spelling.{IsNumber32}
+use Rattle.lg_x86.specs.Spelling.{IsInstr, IsNumber32}
 use Rattle.lg_x86.specs.declared.instruction.Cond.{Cond}
+use Rattle.lg_x86.specs.declared.instruction.BareOp.TheVariants.{Ret}
 use Rattle.lg_x86.specs.declared.instruction.ImmOp.TheVariants.{Andi, Cmpi}
 use Rattle.lg_x86.specs.declared.instruction.Instr.{Instr}
 use Rattle.lg_x86.specs.declared.instruction.Instr.TheVariants as instr
@@ -37,6 +38,7 @@ use Rattle.lg_temp.specs.Abis.{register_of}
 use Rattle.lg_carry.specs.Carries.{leaps}
 use Rattle.lg_selx_values.specs.Processor.Numbers.{number_row}
 use Rattle.lg_selx_values.proofs.OfProcessor.NumberCodeLemmas.{half-number, row-loads}
+use Rattle.lg_sel.specs.Control.Stores.{kept_registers, home_registers}
 use Rattle.lg_sel.proofs.OfControl.StoreLemmas.{take-all}
 use Rattle.lg_sel.proofs.OfControl.ControlLemmas.{differ, never, never-sum, host-small}
 use Rattle.lg_selx_values.specs.declared.items.Item.{Item}
@@ -45,6 +47,8 @@ use Rattle.lg_selx_values.specs.declared.items.JumpKind.{JumpKind}
 use Rattle.lg_selx_values.specs.declared.items.JumpKind.TheVariants.{Near}
 use Rattle.lg_selx_values.specs.Items.{x86_holes, IsItem, NamesOneOf, AreItems, ones}
 use Rattle.lg_selx_values.proofs.ItemLemmas.{items-append, fixes-ones, ones-append}
+use Rattle.lg_sel.proofs.ListLemmas.{each-ones}
+use Rattle.lg_selx.proofs.OfControl.TakenLemmas.{each-taken}
 use Rattle.lg_selx_values.specs.Scratch.{again}
 use Rattle.lg_selx_values.proofs.RegisterLemmas.{register-portable}
 use Rattle.lg_sel.proofs.EmittedLemmas.{nothing-emitted, ones-emitted, ones-in-front}
@@ -56,9 +60,9 @@ use Rattle.lg_selx.specs.Control.ControlFits.{AreEmitted, ControlItemsFit}
 use Rattle.lg_selx.specs.Control.ControlItems.{jump_kind, plain_kind, branch_if_items, register_jump_items, register_call_items, control_items, is_control}
 use Rattle.lg_selx.specs.Control.ControlLaws.{ends_in_label}
 use Rattle.lg_selx.specs.Control.HostCalls.{host_code}
-use Rattle.lg_selx.specs.Control.Prologs.{stored_registers, stores_below, lowered, prolog_code}
+use Rattle.lg_selx.specs.Control.Prologs.{stores_below, stored_code, lowered, prolog_code}
 use Rattle.lg_selx.specs.Control.RegisterLeaps.{register_jump_code, register_call_code}
-use Rattle.lg_selx.specs.Control.Returns.{result, return_code}
+use Rattle.lg_selx.specs.Control.Returns.{result, restores, leave_code, restore_code, return_code}
 use Rattle.lg_selx.specs.Control.SumBranches.{sum_row, sum_number, number_sum, before_sum_branch, sum_taken}
 
 -- ---- instructions alone have no fix and name no label
@@ -127,14 +131,21 @@ sum-fits o frame a v h few small = by (is_half v) refl
     by true e = ((few, half-number v small e), tt)
     by false e = ((row-loads 5 v (omega arith) small).fits, ((few, omega arith), again-fits frame h))
 
-return-fits : AreItems (ones return_code)
-return-fits = (
-  (omega arith, omega arith, low-number 7 (omega arith)),
-  (
-    (omega arith, omega arith, low-number 15 (omega arith)),
-    ((omega arith, omega arith, low-number 23 (omega arith)), ((omega arith, omega arith, near-number 8 (omega arith)), ((omega arith, omega arith, near-number 0 (omega arith)), (tt, tt)))),
-  ),
-)
+-- instructions in a row
+join-fits : (xs ys : List Instr) → AreItems (ones xs) → AreItems (ones ys) → AreItems (ones (xs ++ ys))
+join-fits xs ys a b = subst AreItems (sym (ones-append xs ys)) (items-append (ones xs) (ones ys) a b)
+
+restores-fit : (saved : ℕ) → AreItems (ones (restores saved))
+restores-fit saved =
+    each-ones IsItem One IsInstr (λ i h. h) (restores saved)
+    (each-taken IsInstr saved (restores 3)
+    ((omega arith, omega arith, low-number 7 (omega arith)), ((omega arith, omega arith, low-number 15 (omega arith)), ((omega arith, omega arith, low-number 23 (omega arith)), tt))))
+
+return-fits : (saved : ℕ) → AreItems (ones (return_code saved))
+return-fits saved =
+    join-fits (restore_code saved) (instr.Bare Ret ∷ [])
+    (join-fits (restores saved) leave_code (restores-fit saved) ((omega arith, omega arith, near-number 8 (omega arith)), ((omega arith, omega arith, near-number 0 (omega arith)), tt)))
+    (tt, tt)
 
 idle-fits : (k : ℕ) → AreItems (ones (idle k))
 idle-fits zero = tt
@@ -146,11 +157,17 @@ all-below rs = list_all (λ r. nat_lt r 16) rs
 below : (r : ℕ) → nat_lt r 16 ≡ true → r < 16
 below r h = grind (arith, h)
 
-stored-below : (homes : ℕ) → all-below (stored_registers homes) ≡ true
-stored-below homes = take-all (λ r. nat_lt r 16) (argument_registers X86_64) homes refl
+kept-below : (saved : ℕ) → all-below (kept_registers X86_64 saved) ≡ true
+kept-below saved = take-all (λ r. nat_lt r 16) (kept_registers X86_64 3) saved refl
 
-pub stored-few : (homes : ℕ) → length (stored_registers homes) ≤ 9
-stored-few homes = let e = length-take homes (argument_registers X86_64) in omega (arith, e)
+homes-below : (homes : ℕ) → all-below (home_registers X86_64 homes) ≡ true
+homes-below homes = take-all (λ r. nat_lt r 16) (argument_registers X86_64) homes refl
+
+pub kept-few : (saved : ℕ) → length (kept_registers X86_64 saved) ≤ 3
+kept-few saved = let e = length-take saved (kept_registers X86_64 3) in omega (arith, e)
+
+pub homes-few : (homes : ℕ) → length (home_registers X86_64 homes) ≤ 6
+homes-few homes = let e = length-take homes (argument_registers X86_64) in omega (arith, e)
 
 stores-fit : (rs : List ℕ) (k : ℕ) → all-below rs ≡ true → k + length rs ≤ 13 → AreItems (ones (stores_below rs k))
 stores-fit [] k h few = tt
@@ -158,14 +175,19 @@ stores-fit (r ∷ rs) k h few =
     let p = and_parts (nat_lt r 16) (all-below rs) h in
     ((omega arith, low-number (8 * k - 9) (omega (arith, few)), below r p.0), stores-fit rs (suc k) p.1 (omega (arith, few)))
 
-prolog-fits : (size homes : ℕ) → size < 0x40000000 → AreItems (ones (prolog_code size homes))
-prolog-fits size homes h = (
+stored-fits : (saved homes : ℕ) → AreItems (ones (stored_code saved homes))
+stored-fits saved homes =
+    let kept : List ℕ = kept_registers X86_64 saved in
+    let read : List ℕ = home_registers X86_64 homes in
+    join-fits (stores_below kept 2) (stores_below read 5) (stores-fit kept 2 (kept-below saved) (let few = kept-few saved in omega (arith, few)))
+    (stores-fit read 5 (homes-below homes) (let few = homes-few homes in omega (arith, few)))
+
+prolog-fits : (size homes saved : ℕ) → size < 0x40000000 → AreItems (ones (prolog_code saved size homes))
+prolog-fits size homes saved h = (
   (omega arith, low-number 7 (omega arith), omega arith),
   (
     (omega arith, omega arith, low-number 7 (omega arith)),
-    subst AreItems (sym (ones-append (stores_below (stored_registers homes) 2) (lowered size)))
-        (items-append (ones (stores_below (stored_registers homes) 2)) (ones (lowered size))
-        (stores-fit (stored_registers homes) 2 (stored-below homes) (let few = stored-few homes in omega (arith, few))) (lowered-fits size h)),
+    join-fits (stored_code saved homes) (lowered size) (stored-fits saved homes) (lowered-fits size h),
   ),
 )
 
@@ -188,9 +210,9 @@ first-small : (a : Reg) → register_of X86_64 a < 16
 first-small a = (register-portable a).small
 
 -- ---- the nodes
-module _ (r : Reach) (labels frame homes at : ℕ) (framed : frame < 0x40000000) where
+module _ (r : Reach) (labels frame homes saved at : ℕ) (framed : frame < 0x40000000) where
   abbrev items-of : Op → List Operand → List Item
-  items-of o xs = control_items r o xs frame homes at
+  items-of o xs = control_items r o xs frame homes saved at
 
   before-fits : (o : Condition) (a : Reg) (x : Operand) → IsGiven labels x → AreItems (ones (before_branch frame o a x))
   before-fits o a (operand.Reg b) v = ((first-small a, first-small b), tt)
@@ -246,24 +268,27 @@ module _ (r : Reach) (labels frame homes at : ℕ) (framed : frame < 0x40000000)
   register-call (x ∷ y ∷ ys) h = absurd (never (admits form.Read x) h)
   register-call xs h = absurd (differ h)
 
-  returns : AreEmitted labels true (ones return_code)
-  returns = plain-emitted labels true return_code return-fits (λ e. omega arith)
+  returns-some : 0 < length (return_code saved)
+  returns-some = let e = length-append (restore_code saved) (instr.Bare Ret ∷ []) in omega (arith, e)
+
+  returns : AreEmitted labels true (ones (return_code saved))
+  returns = plain-emitted labels true (return_code saved) (return-fits saved) (λ e. returns-some)
 
   -- a number is put into the register of the result
-  number-ret : (v : ℕ) → v < 2 ^ 64 → AreEmitted labels true (ones (number_row result v ∷ []) ++ ones return_code)
-  number-ret v small = in-front labels true (number_row result v ∷ []) (ones return_code) ((row-loads result v (omega arith) small).fits, tt) returns
+  number-ret : (v : ℕ) → v < 2 ^ 64 → AreEmitted labels true (ones (number_row result v ∷ []) ++ ones (return_code saved))
+  number-ret v small = in-front labels true (number_row result v ∷ []) (ones (return_code saved)) ((row-loads result v (omega arith) small).fits, tt) returns
 
   ret : (last : LastOperand) (xs : List Operand) → admit (forms_of (op.Control control.Ret last)) xs ≡ true → AreGiven labels xs
       → AreEmitted labels true (items-of (op.Control control.Ret last) xs)
   ret last_operand.Register (operand.Reg R0 ∷ []) h v = returns
   ret last_operand.Register (operand.Reg a ∷ []) h v =
-      in-front labels true (instr.RmReg Mov result (register_of X86_64 a) ∷ []) (ones return_code) ((omega arith, first-small a), tt) returns
+      in-front labels true (instr.RmReg Mov result (register_of X86_64 a) ∷ []) (ones (return_code saved)) ((omega arith, first-small a), tt) returns
   ret last_operand.Immediate (operand.Number x ∷ []) h v = number-ret x v.0
   ret last_operand.Immediate (operand.Host name ∷ []) h v = number-ret (host_address name) (host-small name)
   ret last_operand.Immediate (operand.Label l ∷ []) h v = record {
-    items = (omega arith, return-fits);
+    items = (omega arith, return-fits saved);
     labels = (v.0, returns.labels);
-    one_fix = λ place. let e = ap length (fixes-ones (place + 5) return_code) in omega (arith, e);
+    one_fix = λ place. let e = ap length (fixes-ones (place + 5) (return_code saved)) in omega (arith, e);
     some = λ e. omega arith;
   }
   ret last_operand.Register (x ∷ y ∷ ys) h v = absurd (never (admits form.Read x) h)
@@ -289,9 +314,9 @@ module _ (r : Reach) (labels frame homes at : ℕ) (framed : frame < 0x40000000)
   by-op (op.Control control.Call last_operand.Immediate) xs c h v e = call xs h v
   by-op (op.Control control.Finish last_operand.Immediate) xs c h v e = call xs h v
   by-op (op.Control control.Ret last) xs c h v e = ret last xs h v
-  by-op (op.Plain plain.Prolog) xs c h v e = plain-emitted labels false (prolog_code frame homes) (prolog-fits frame homes framed) (λ z. absurd (differ z))
-  by-op (op.Plain plain.Epilog) xs c h v e = plain-emitted labels true return_code return-fits (λ z. omega arith)
-  by-op (op.Plain plain.Ret) xs c h v e = plain-emitted labels true return_code return-fits (λ z. omega arith)
+  by-op (op.Plain plain.Prolog) xs c h v e = plain-emitted labels false (prolog_code saved frame homes) (prolog-fits frame homes saved framed) (λ z. absurd (differ z))
+  by-op (op.Plain plain.Epilog) xs c h v e = returns
+  by-op (op.Plain plain.Ret) xs c h v e = returns
   by-op (op.Plain plain.Align) xs c h v e = align xs h
   by-op (op.Plain plain.Prepare) xs c h v e = nothing
   by-op (op.Plain plain.Ellipsis) xs c h v e = nothing
@@ -301,4 +326,4 @@ module _ (r : Reach) (labels frame homes at : ℕ) (framed : frame < 0x40000000)
   by-op o xs c h v e = absurd (differ c)
 
 pub control-items-fit : ControlItemsFit
-control-items-fit r n labels frame homes at framed c h v e = by-op r labels frame homes at framed n.op n.operands c h.forms v e
+control-items-fit r n labels frame homes saved at framed c h v e = by-op r labels frame homes saved at framed n.op n.operands c h.forms v e

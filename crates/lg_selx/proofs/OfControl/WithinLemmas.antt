@@ -1,6 +1,6 @@
 -- No item of a node that branches, jumps, calls or returns, of `prolog` or `.align` writes a register that is outside of the conventions.
 use Rattle.std.proofs.Common.{ℕ, zero, suc, List, [], ◌∷◌, Option, Some, None, Bool, refl, true, false}
-use Rattle.std.specs.Prelude.{true, false, ◌==◌, ◌&&◌, ◌%◌, ◌^◌, nat_lt, pos, negsuc, if◌then◌else◌}
+use Rattle.std.specs.Prelude.{true, false, ◌==◌, ◌&&◌, ◌%◌, ◌^◌, nat_lt, pos, if◌then◌else◌}
 use Rattle.lg_x86.specs.declared.instruction.Cond.{Cond}
 use Rattle.lg_sel.specs.declared.reach.Reach.TheVariants.{Short, Near, Far}
 use Rattle.lg_selx_values.specs.declared.items.Item.TheVariants.{Jump}
@@ -21,6 +21,7 @@ use Rattle.lg_op.specs.declared.op.PlainOp.TheVariants as plain
 use Rattle.lg_op.specs.declared.operand.Operand.{Operand}
 use Rattle.lg_op.specs.declared.operand.Operand.TheVariants as operand
 use Rattle.lg_op.specs.declared.operand.Reg.{Reg}
+use Rattle.lg_x86.specs.declared.instruction.BareOp.TheVariants.{Ret}
 use Rattle.lg_x86.specs.declared.instruction.ImmOp.TheVariants.{Andi, Cmpi}
 use Rattle.lg_x86.specs.declared.instruction.Instr.TheVariants as instr
 use Rattle.lg_op.specs.declared.operand.Reg.TheVariants.{R0}
@@ -28,7 +29,7 @@ use Rattle.lg_temp.specs.Abis.{register_of}
 use Rattle.lg_selx_values.specs.Processor.Destinations.{WritesWithin}
 use Rattle.lg_selx_values.specs.Processor.Numbers.{number_row}
 use Rattle.lg_selx_values.specs.Items.{ones, StayWithin, StaysWithin}
-use Rattle.lg_selx_values.proofs.WithinLemmas.{In, portable, Within, join, stay-append, stay-ones, Moving, moving-join, moving-append, moving-ones, items-moving}
+use Rattle.lg_selx_values.proofs.WithinLemmas.{In, portable, Within, stay-append, stay-ones, Moving, moving-join, moving-append, moving-ones, items-moving}
 use Rattle.lg_selx_values.specs.Scratch.{again}
 use Rattle.lg_sel.specs.declared.reach.Reach.{Reach}
 use Rattle.lg_selx.specs.Control.Alignments.{padding, idle, align_code}
@@ -37,8 +38,10 @@ use Rattle.lg_selx.specs.Control.ControlFits.{ControlItemsStay}
 use Rattle.lg_selx.specs.Control.ControlItems.{branch_items, sum_items, jump_items, call_items, result_items, ret_items, jump_kind}
 use Rattle.lg_selx.specs.Control.ControlItems.{register_jump_items, register_call_items, leap_items, align_items, plain_items, control_items}
 use Rattle.lg_selx.specs.Control.HostCalls.{host_code}
-use Rattle.lg_selx.specs.Control.Prologs.{stored_registers, stores_below, lowered, prolog_code}
-use Rattle.lg_selx.specs.Control.Returns.{result, return_code}
+use Rattle.lg_sel.specs.Control.Stores.{kept_registers, home_registers}
+use Rattle.lg_selx.specs.Control.Prologs.{stores_below, stored_code, lowered, prolog_code}
+use Rattle.lg_selx.specs.Control.Returns.{result, restores, leave_code, restore_code, return_code}
+use Rattle.lg_selx.proofs.OfControl.TakenLemmas.{each-taken}
 use Rattle.lg_selx.specs.Control.SumBranches.{sum_row, sum_number, number_sum, before_sum_branch, sum_taken}
 
 -- ---- branches, jumps, calls and returns
@@ -129,12 +132,17 @@ results (operand.Number v) = (number result v refl, tt)
 results (operand.Host name) = (number result (host_address name) refl, tt)
 results (operand.Slot k) = tt
 
-returns : StayWithin true (ones return_code)
-returns = ((refl, tt), ((refl, tt), ((refl, tt), ((refl, tt), ((refl, tt), ((refl, tt), tt))))))
+restored : (saved : ℕ) → Moving (restores saved)
+restored saved = each-taken (WritesWithin true) saved (restores 3) ((refl, tt), ((refl, tt), ((refl, tt), tt)))
 
-returned : (xs : List Operand) → StayWithin true (ret_items xs)
-returned (x ∷ []) = moving-append (result_items x) (ones return_code) (items-moving (result_items x) (results x)) returns
-returned xs = tt
+returns : (saved : ℕ) → StayWithin true (ones (return_code saved))
+returns saved =
+    moving-ones (return_code saved)
+    (moving-join (restore_code saved) (instr.Bare Ret ∷ []) (moving-join (restores saved) leave_code (restored saved) ((refl, tt), ((refl, tt), tt))) ((refl, tt), tt))
+
+returned : (saved : ℕ) (xs : List Operand) → StayWithin true (ret_items saved xs)
+returned saved (x ∷ []) = moving-append (result_items x) (ones (return_code saved)) (items-moving (result_items x) (results x)) (returns saved)
+returned saved xs = tt
 
 register-jumped : (xs : List Operand) → StayWithin false (register_jump_items xs)
 register-jumped (operand.Reg a ∷ []) = (tt, tt)
@@ -144,15 +152,15 @@ register-called : (xs : List Operand) → StayWithin true (register_call_items x
 register-called (operand.Reg a ∷ []) = ((refl, tt), ((refl, tt), ((refl, tt), tt)))
 register-called xs = tt
 
-leaps : (r : Reach) (o : ControlOp) (last : LastOperand) (xs : List Operand) → StayWithin (moves_stack X86_64 (op.Control o last)) (leap_items r o last xs)
-leaps r control.Jmp last_operand.Immediate xs = jumped r xs
-leaps r control.Jmp last_operand.Register xs = register-jumped xs
-leaps r control.Call last_operand.Immediate xs = called xs
-leaps r control.Call last_operand.Register xs = register-called xs
-leaps r control.Finish last_operand.Immediate xs = called xs
-leaps r control.Finish last_operand.Register xs = register-called xs
-leaps r control.Ret last xs = returned xs
-leaps r control.Pusharg last xs = tt
+leaps : (r : Reach) (saved : ℕ) (o : ControlOp) (last : LastOperand) (xs : List Operand) → StayWithin (moves_stack X86_64 (op.Control o last)) (leap_items r saved o last xs)
+leaps r saved control.Jmp last_operand.Immediate xs = jumped r xs
+leaps r saved control.Jmp last_operand.Register xs = register-jumped xs
+leaps r saved control.Call last_operand.Immediate xs = called xs
+leaps r saved control.Call last_operand.Register xs = register-called xs
+leaps r saved control.Finish last_operand.Immediate xs = called xs
+leaps r saved control.Finish last_operand.Register xs = register-called xs
+leaps r saved control.Ret last xs = returned saved xs
+leaps r saved control.Pusharg last xs = tt
 
 -- ---- the others
 idles : (k : ℕ) → Within (idle k)
@@ -167,25 +175,27 @@ below : (rs : List ℕ) (k : ℕ) → Moving (stores_below rs k)
 below [] k = tt
 below (r ∷ rs) k = (tt, below rs (suc k))
 
-begins : (frame homes : ℕ) → Moving (prolog_code frame homes)
-begins frame homes = (
-  tt,
-  ((refl, tt), moving-join (stores_below (stored_registers homes) 2) (lowered frame) (below (stored_registers homes) 2) ((refl, tt), tt)),
-)
+stored : (saved homes : ℕ) → Moving (stored_code saved homes)
+stored saved homes =
+    moving-join (stores_below (kept_registers X86_64 saved) 2) (stores_below (home_registers X86_64 homes) 5) (below (kept_registers X86_64 saved) 2)
+    (below (home_registers X86_64 homes) 5)
 
-plainly : (o : PlainOp) (xs : List Operand) (frame homes at : ℕ) → StayWithin (moves_stack X86_64 (op.Plain o)) (plain_items o xs frame homes at)
-plainly plain.Prolog xs frame homes at = moving-ones (prolog_code frame homes) (begins frame homes)
-plainly plain.Epilog xs frame homes at = returns
-plainly plain.Ret xs frame homes at = returns
-plainly plain.Align xs frame homes at = aligned at xs
-plainly o xs frame homes at = tt
+begins : (frame homes saved : ℕ) → Moving (prolog_code saved frame homes)
+begins frame homes saved = (tt, ((refl, tt), moving-join (stored_code saved homes) (lowered frame) (stored saved homes) ((refl, tt), tt)))
 
-stay : (r : Reach) (o : Op) (xs : List Operand) (frame homes at : ℕ) → StayWithin (moves_stack X86_64 o) (control_items r o xs frame homes at)
-stay r (op.Branch o last) xs frame homes at = branched r frame o xs
-stay r (op.BranchSum o last) xs frame homes at = summed r frame o xs
-stay r (op.Control o last) xs frame homes at = leaps r o last xs
-stay r (op.Plain o) xs frame homes at = plainly o xs frame homes at
-stay r o xs frame homes at = tt
+plainly : (o : PlainOp) (xs : List Operand) (frame homes saved at : ℕ) → StayWithin (moves_stack X86_64 (op.Plain o)) (plain_items o xs frame homes saved at)
+plainly plain.Prolog xs frame homes saved at = moving-ones (prolog_code saved frame homes) (begins frame homes saved)
+plainly plain.Epilog xs frame homes saved at = returns saved
+plainly plain.Ret xs frame homes saved at = returns saved
+plainly plain.Align xs frame homes saved at = aligned at xs
+plainly o xs frame homes saved at = tt
+
+stay : (r : Reach) (o : Op) (xs : List Operand) (frame homes saved at : ℕ) → StayWithin (moves_stack X86_64 o) (control_items r o xs frame homes saved at)
+stay r (op.Branch o last) xs frame homes saved at = branched r frame o xs
+stay r (op.BranchSum o last) xs frame homes saved at = summed r frame o xs
+stay r (op.Control o last) xs frame homes saved at = leaps r saved o last xs
+stay r (op.Plain o) xs frame homes saved at = plainly o xs frame homes saved at
+stay r o xs frame homes saved at = tt
 
 pub control-items-stay : ControlItemsStay
-control-items-stay r n frame homes at = stay r n.op n.operands frame homes at
+control-items-stay r n frame homes saved at = stay r n.op n.operands frame homes saved at

@@ -2,6 +2,7 @@
 use Rattle.std.proofs.Common.{◌≡◌, ◌≢◌, ℕ, ◌<◌, ◌⊎◌, inl, inr, Bool, true, false, List, [], ◌∷◌, refl, sym, ap, ◌∙◌, arith, subst, length}
 use Rattle.std.specs.Prelude.{◌==◌, ◌||◌, ◌&&◌, ◌≤◌, slice_index_or}
 use Rattle.std.specs.List.{list_any}
+use Rattle.std.proofs.lemmas.Bool.{or_left, or_parts}
 use Rattle.lg_base.specs.declared.target.Target.TheVariants.{X86_64}
 use Rattle.lg_live.specs.Registers.{is_same}
 use Rattle.lg_live.specs.Uses.{is_read, is_written, is_for, is_register, names}
@@ -68,10 +69,6 @@ record IsTemporary (n : Node) (choices : List Choice) (u : ℕ) : Type 0 where
   stack : 4 ≢ u
   apart : (r : Reg) → IsOf n r → register_of X86_64 r ≢ u
 
-either : (b c : Bool) → (b || c) ≡ false → (b ≡ false) × (c ≡ false)
-either true c e = cc
-either false c e = (refl, e)
-
 same : (u : ℕ) (b : Bool) → ((u == u) || b) ≡ true
 same u b = let e : (u == u) ≡ true = grind arith in ap (λ c. c || b) e
 
@@ -92,7 +89,7 @@ module _ (n : Node) (u : ℕ) where
   tried-apart : (live : Reg → Bool) (staged : List Bool) (choices : List Choice) → IsTaken (around X86_64 n live staged) (Any ∷ []) [] u → is_taken choices u ≡ true
       → IsTemporary n choices u
   tried-apart live staged choices m taken =
-      let own = either (stands_in X86_64 (is_read n) u) (stands_in X86_64 (is_written n) u) m.own in
+      let own = or_parts (stands_in X86_64 (is_read n) u) (stands_in X86_64 (is_written n) u) m.own in
       let spare = tried-spare X86_64 u m.tried in
       record { fine = tried-fine u m.tried; taken = taken; stack = spare.stack; apart = λ r of. apart-from r spare.pointer own.0 of }
 
@@ -105,8 +102,6 @@ temporary-apart n live staged (Free r ∷ []) h = tried-apart n r live staged (F
 temporary-apart n live staged (Spill r k ∷ []) h = tried-apart n r live staged (Spill r k ∷ []) h.0.0 (same r false)
 
 -- ---- the registers that a store reads
-or-first : (b c : Bool) → b ≡ true → (b || c) ≡ true
-or-first b c e = ap (λ z. z || c) e
 
 names-first : (f : Form) (fs : List Form) (d : Reg) (xs : List Operand) → is_for access.Read f ≡ true → d ≢ Fp → names access.Read (f ∷ fs) (operand.Reg d ∷ xs) d ≡ true
 names-first f fs d xs here named = or-last (names access.Read fs xs d) (is_for access.Read f) (is_same d d) here (same-self d named)
@@ -116,7 +111,7 @@ names-first f fs d xs here named = or-last (names access.Read fs xs d) (is_for a
     or-last false y z e h = rw (e, h) refl
 
 names-later : (f : Form) (fs : List Form) (x : Operand) (xs : List Operand) (r : Reg) → names access.Read fs xs r ≡ true → names access.Read (f ∷ fs) (x ∷ xs) r ≡ true
-names-later f fs x xs r h = or-first (names access.Read fs xs r) (is_for access.Read f && is_register r x) h
+names-later f fs x xs r h = or_left (names access.Read fs xs r) (is_for access.Read f && is_register r x) h
 
 abbrev Reads : Addressing → List Operand → Reg → Type 0
 Reads at xs r = r ≢ Fp → names access.Read (store_forms at) xs r ≡ true

@@ -17,9 +17,10 @@ AreEmitted count leaping xs = good_items.AreEmitted x86_holes IsItem NamesOneOf 
 -- in a frame whose size is a number of 31 bits
 abbrev pub ControlItemsFit : Type 0
 ControlItemsFit =
-    (r : Reach) (n : Node) (labels frame homes at : ℕ) → frame < 0x40000000
-    → IsFit AreEmitted n labels (control_items r n.op n.operands frame homes at)
+    (r : Reach) (n : Node) (labels frame homes saved at : ℕ) → frame < 0x40000000
+    → IsFit AreEmitted n labels (control_items r n.op n.operands frame homes saved at)
 
 -- the items write no register that is outside of the conventions
 abbrev pub ControlItemsStay : Type 0
-ControlItemsStay = (r : Reach) (n : Node) (frame homes at : ℕ) → StayWithin (moves_stack X86_64 n.op) (control_items r n.op n.operands frame homes at)
+ControlItemsStay =
+    (r : Reach) (n : Node) (frame homes saved at : ℕ) → StayWithin (moves_stack X86_64 n.op) (control_items r n.op n.operands frame homes saved at)

@@ -82,9 +82,10 @@ result_items (operand.Reg a) = One (instr.RmReg Mov result (register_of X86_64 a
 result_items (operand.Label l) = Address result l.0 ∷ []
 result_items x = word_items (immediate x)
 
-abbrev pub ret_items : List Operand → List Item
-ret_items (x ∷ []) = result_items x ++ ones return_code
-ret_items xs = []
+-- where frames save so many of V0, V1 and V2
+abbrev pub ret_items : ℕ → List Operand → List Item
+ret_items saved (x ∷ []) = result_items x ++ ones (return_code saved)
+ret_items saved xs = []
 
 -- a jump to the word of a register, and a call of it
 abbrev pub register_jump_items : List Operand → List Item
@@ -95,36 +96,36 @@ abbrev pub register_call_items : List Operand → List Item
 register_call_items (operand.Reg a ∷ []) = ones (register_call_code 0 a)
 register_call_items xs = []
 
-abbrev pub leap_items : Reach → ControlOp → LastOperand → List Operand → List Item
-leap_items r control.Jmp last_operand.Immediate xs = jump_items r xs
-leap_items r control.Jmp last_operand.Register xs = register_jump_items xs
-leap_items r control.Call last_operand.Immediate xs = call_items xs
-leap_items r control.Call last_operand.Register xs = register_call_items xs
-leap_items r control.Finish last_operand.Immediate xs = call_items xs
-leap_items r control.Finish last_operand.Register xs = register_call_items xs
-leap_items r control.Ret last xs = ret_items xs
-leap_items r o last xs = []
+abbrev pub leap_items : Reach → ℕ → ControlOp → LastOperand → List Operand → List Item
+leap_items r saved control.Jmp last_operand.Immediate xs = jump_items r xs
+leap_items r saved control.Jmp last_operand.Register xs = register_jump_items xs
+leap_items r saved control.Call last_operand.Immediate xs = call_items xs
+leap_items r saved control.Call last_operand.Register xs = register_call_items xs
+leap_items r saved control.Finish last_operand.Immediate xs = call_items xs
+leap_items r saved control.Finish last_operand.Register xs = register_call_items xs
+leap_items r saved control.Ret last xs = ret_items saved xs
+leap_items r saved o last xs = []
 
 -- ---- the others
 abbrev pub align_items : ℕ → List Operand → List Item
 align_items at (operand.Number n ∷ []) = ones (align_code at n)
 align_items at xs = []
 
-abbrev pub plain_items : PlainOp → List Operand → ℕ → ℕ → ℕ → List Item
-plain_items plain.Prolog xs frame homes at = ones (prolog_code frame homes)
-plain_items plain.Epilog xs frame homes at = ones return_code
-plain_items plain.Ret xs frame homes at = ones return_code
-plain_items plain.Align xs frame homes at = align_items at xs
-plain_items o xs frame homes at = []
+abbrev pub plain_items : PlainOp → List Operand → ℕ → ℕ → ℕ → ℕ → List Item
+plain_items plain.Prolog xs frame homes saved at = ones (prolog_code saved frame homes)
+plain_items plain.Epilog xs frame homes saved at = ones (return_code saved)
+plain_items plain.Ret xs frame homes saved at = ones (return_code saved)
+plain_items plain.Align xs frame homes saved at = align_items at xs
+plain_items o xs frame homes saved at = []
 
--- ---- of a node in a function with a frame of so many bytes and so many homes that are read, whose code begins at an address, or a place of the buffer,
--- and has a reach
-abbrev pub control_items : Reach → Op → List Operand → ℕ → ℕ → ℕ → List Item
-control_items r (op.Branch o last) xs frame homes at = branch_items r frame o xs
-control_items r (op.BranchSum o last) xs frame homes at = sum_items r frame o xs
-control_items r (op.Control o last) xs frame homes at = leap_items r o last xs
-control_items r (op.Plain o) xs frame homes at = plain_items o xs frame homes at
-control_items r o xs frame homes at = []
+-- ---- of a node in a function with a frame of so many bytes and so many homes that are read, where frames save so many of V0, V1 and V2, whose code begins
+-- at an address, or a place of the buffer, and has a reach
+abbrev pub control_items : Reach → Op → List Operand → ℕ → ℕ → ℕ → ℕ → List Item
+control_items r (op.Branch o last) xs frame homes saved at = branch_items r frame o xs
+control_items r (op.BranchSum o last) xs frame homes saved at = sum_items r frame o xs
+control_items r (op.Control o last) xs frame homes saved at = leap_items r saved o last xs
+control_items r (op.Plain o) xs frame homes saved at = plain_items o xs frame homes saved at
+control_items r o xs frame homes saved at = []
 
 -- the operations whose nodes have these items
 abbrev pub is_control : Op → Bool

@@ -17,9 +17,9 @@ use Rattle.lg_selx.specs.Control.RegisterLeaps.{register_jump_code, register_cal
 use Rattle.lg_selx.specs.Control.Returns.{returned_code}
 use Rattle.lg_selx.specs.Control.TwoWays.{branch_code, sum_branch_code}
 
--- with this reach
-abbrev pub x86_control : Reach → Codes Instr
-x86_control r = record {
+-- with this reach, where frames save so many of V0, V1 and V2
+abbrev pub x86_control : Reach → ℕ → Codes Instr
+x86_control r saved = record {
   branch = branch_code r;
   sum_branch = sum_branch_code r;
   jump = jump_code r;
@@ -27,13 +27,13 @@ x86_control r = record {
   call = call_code;
   host_call = host_code;
   register_call = register_call_code;
-  ret = returned_code;
-  prolog = prolog_code;
+  ret = returned_code saved;
+  prolog = prolog_code saved;
   align = align_code;
 }
 
-abbrev pub IsX86 : Reach → List ℕ → ℕ → Type 0
-IsX86 r code trash = Controls (x86_rows code trash) x86_scratch IsInstr x86_ready (x86_control r)
+abbrev pub IsX86 : Reach → ℕ → List ℕ → ℕ → Type 0
+IsX86 r saved code trash = Controls (x86_rows code trash) x86_scratch IsInstr x86_ready saved (x86_control r saved)
 
 abbrev pub IsTarget : Type 0
-IsTarget = (r : Reach) (code : List ℕ) (trash : ℕ) → length code ≤ most_code → AreBytes code → trash < 2 ^ 64 → IsX86 r code trash
+IsTarget = (r : Reach) (saved : ℕ) (code : List ℕ) (trash : ℕ) → length code ≤ most_code → AreBytes code → trash < 2 ^ 64 → IsX86 r saved code trash

@@ -6,9 +6,10 @@ ghost use Rattle.lg_base.specs.declared.target.Target.TheVariants.{X86_64};
 ghost use Rattle.lg_op.specs.Forms.{admit, plain_forms};
 ghost use Rattle.lg_op.specs.declared.form.Form.TheVariants as form;
 ghost use Rattle.lg_selx.specs.Control.ControlItems.{align_items, plain_items};
-ghost use Rattle.lg_selx.specs.Control.Prologs.{stored_registers, stores_below, lower, prolog_code};
+ghost use Rattle.lg_sel.specs.Control.Stores.{kept_registers};
+ghost use Rattle.lg_selx.specs.Control.Prologs.{stores_below, stored_code, lower, prolog_code};
 ghost use Rattle.lg_x86.specs.declared.instruction.LoadOp.TheVariants.{Lea};
-ghost use Rattle.lg_selx.specs.Control.Returns.{return_code};
+ghost use Rattle.lg_selx.specs.Control.Returns.{restores, return_code};
 ghost use Rattle.lg_selx_values.specs.Items.{words_in, ones};
 
 use lg_op::{Operand, PlainOp};
@@ -57,7 +58,7 @@ fn pointed() -> [Instr; 2]
 
 // And what it stores by FP: V0, V1 and V2.
 fn saves() -> [Instr; 3]
-    ensures { result ≡ stores_below (stored_registers 0) 2 }
+    ensures { result ≡ stores_below (kept_registers X86_64 3) 2 }
 {
     [
         store(FRAME_POINTER, -8, V0),
@@ -80,27 +81,27 @@ fn home_stores() -> [Instr; 6]
     ]
 }
 
-// Appends the stores of a `prolog` by FP with so many homes.
+// Appends the stores of a `prolog` by FP: of so many of V0, V1 and V2, and of so many homes.
 #[tactic(auto, using(lg_selx_values::proofs::ItemLemmas::words_append))]
-fn put_stores(homes: u32, items: &mut Items<Item>)
+fn put_stores(homes: u32, saved: u32, items: &mut Items<Item>)
     requires room { words_in items.old ≤ 50 }
-    ensures stored { items.new ≡ items.old ++ ones (stores_below (stored_registers homes) 2) }
+    ensures stored { items.new ≡ items.old ++ ones (stored_code saved homes) }
     ensures few { words_in items.new ≤ words_in items.old + 9 }
 {
-    items.all(&saves());
+    items.all(&saves()[..saved.min(3) as usize]);
     items.all(&home_stores()[..homes.min(6) as usize]);
 }
 
-// Appends the code of a `prolog` with so many homes to none.
+// Appends the code of a `prolog` with so many homes to none, which saves so many of V0, V1 and V2.
 #[tactic(auto, using(lg_selx_values::proofs::ItemLemmas::words_append))]
-fn put_prolog(size: u32, homes: u32, items: &mut Items<Item>)
+fn put_prolog(size: u32, homes: u32, saved: u32, items: &mut Items<Item>)
     requires empty { items.old ≡ [] }
     requires some { 272 ≤ size }
     requires small { size < 0x4000_0000 }
-    ensures { items.new ≡ ones (prolog_code size homes) }
+    ensures { items.new ≡ ones (prolog_code saved size homes) }
 {
     items.all(&pointed());
-    put_stores(homes, items);
+    put_stores(homes, saved, items);
     items.one(lowered(size));
 }
 
@@ -116,26 +117,32 @@ fn load(reg: u8, disp: i32) -> Instr
     }
 }
 
-// What a return does.
-fn return_code() -> [Instr; 6]
-    ensures { result ≡ return_code }
+// What a return loads: V0, V1 and V2.
+fn restores() -> [Instr; 3]
+    ensures { result ≡ restores 3 }
+{
+    [load(V0, -8), load(V1, -16), load(V2, -24)]
+}
+
+// And what it does behind that.
+fn leaves() -> [Instr; 3]
+    ensures { result ≡ return_code 0 }
 {
     [
-        load(V0, -8),
-        load(V1, -16),
-        load(V2, -24),
         lea(STACK_POINTER, FRAME_POINTER, 8),
         load(FRAME_POINTER, 0),
         Instr::Bare { op: BareOp::Ret },
     ]
 }
 
-// Appends a return.
-pub(crate) fn put_return(items: &mut Items<Item>)
+// Appends a return that restores so many of V0, V1 and V2.
+#[tactic(auto, using(lg_selx_values::proofs::ItemLemmas::words_append))]
+pub(crate) fn put_return(saved: u32, items: &mut Items<Item>)
     requires { words_in items.old ≤ 50 }
-    ensures { items.new ≡ items.old ++ ones return_code }
+    ensures { items.new ≡ items.old ++ ones (return_code saved) }
 {
-    items.all(&return_code());
+    items.all(&restores()[..saved.min(3) as usize]);
+    items.all(&leaves());
 }
 
 // Appends the items of `.align` to none.
@@ -160,6 +167,7 @@ pub(crate) fn put_plain(
     operands: &[Operand],
     frame: u32,
     homes: u32,
+    saved: u32,
     place: u32,
     items: &mut Items<Item>,
 )
@@ -167,11 +175,11 @@ pub(crate) fn put_plain(
     requires formed { admit (plain_forms op) operands.now ≡ true }
     requires some { 272 ≤ frame }
     requires small { frame < 0x4000_0000 }
-    ensures { items.new ≡ plain_items op operands.now frame homes place }
+    ensures { items.new ≡ plain_items op operands.now frame homes saved place }
 {
     match op {
-        PlainOp::Prolog => put_prolog(frame, homes, items),
-        PlainOp::Epilog | PlainOp::Ret => put_return(items),
+        PlainOp::Prolog => put_prolog(frame, homes, saved, items),
+        PlainOp::Epilog | PlainOp::Ret => put_return(saved, items),
         PlainOp::Align => put_align(place, operands, items),
         _ => {}
     }

@@ -127,14 +127,14 @@ fn put_result(operand: Operand, items: &mut Items<Item>)
 }
 
 // Appends the items of `retr` and `reti` to none.
-fn put_ret(operands: &[Operand], items: &mut Items<Item>)
+fn put_ret(saved: u32, operands: &[Operand], items: &mut Items<Item>)
     requires { items.old ≡ [] }
-    ensures { items.new ≡ ret_items operands.now }
+    ensures { items.new ≡ ret_items saved operands.now }
 {
     match operands {
         [operand] => {
             put_result(*operand, items);
-            put_return(items);
+            put_return(saved, items);
         }
         _ => {}
     }
@@ -143,13 +143,14 @@ fn put_ret(operands: &[Operand], items: &mut Items<Item>)
 // Appends the items of a jump, a call or a return to none.
 pub(crate) fn put_leap(
     reach: Reach,
+    saved: u32,
     op: ControlOp,
     last: LastOperand,
     operands: &[Operand],
     items: &mut Items<Item>,
 )
     requires { items.old ≡ [] }
-    ensures { items.new ≡ leap_items reach op last operands.now }
+    ensures { items.new ≡ leap_items reach saved op last operands.now }
 {
     match (op, last) {
         (ControlOp::Jmp, LastOperand::Immediate) => put_jump(reach, operands, items),
@@ -158,7 +159,7 @@ pub(crate) fn put_leap(
         (ControlOp::Call | ControlOp::Finish, LastOperand::Register) => {
             put_register_call(operands, items)
         }
-        (ControlOp::Ret, _) => put_ret(operands, items),
+        (ControlOp::Ret, _) => put_ret(saved, operands, items),
         _ => {}
     }
 }

@@ -8,7 +8,7 @@ pub returns-in-Aarch64-clause-appended : goal.returns-in-Aarch64-clause-appended
 returns-in-Aarch64-clause-appended c = λ went. record {
   choices = c.chosen-choices.result;
   chosen = subst (λ needs. choices_of (around c.args.target c.args.node.now (has c.args.live_after) c.args.staged.arguments) needs ≡ Some c.chosen-choices.result) c.needs-needs.ensures c.chosen-choices.ensures;
-  appended = subst (λ target. IsAppended target c.args.node.now c.args.frame c.args.homes (has c.args.live_after) c.args.staged.arguments c.chosen-choices.result c.args.buf.now c.select.new.buf) (sym c.in-Aarch64.is) record {
+  appended = subst (λ target. IsAppended target c.args.node.now c.args.frame c.args.homes c.args.saved (has c.args.live_after) c.args.staged.arguments c.chosen-choices.result c.args.buf.now c.select.new.buf) (sym c.in-Aarch64.is) record {
     ends = c.here-place.ensures.fixes;
     bytes = c.select.ensures.bytes went;
     short = c.select.ensures.short;
@@ -29,7 +29,7 @@ pub returns-in-Riscv64-clause-appended : goal.returns-in-Riscv64-clause-appended
 returns-in-Riscv64-clause-appended c = λ went. record {
   choices = c.chosen-choices.result;
   chosen = subst (λ needs. choices_of (around c.args.target c.args.node.now (has c.args.live_after) c.args.staged.arguments) needs ≡ Some c.chosen-choices.result) c.needs-needs.ensures c.chosen-choices.ensures;
-  appended = subst (λ target. IsAppended target c.args.node.now c.args.frame c.args.homes (has c.args.live_after) c.args.staged.arguments c.chosen-choices.result c.args.buf.now c.select-in-Riscv64.new.buf) (sym c.in-Riscv64.is) record {
+  appended = subst (λ target. IsAppended target c.args.node.now c.args.frame c.args.homes c.args.saved (has c.args.live_after) c.args.staged.arguments c.chosen-choices.result c.args.buf.now c.select-in-Riscv64.new.buf) (sym c.in-Riscv64.is) record {
     ends = c.here-place.ensures.fixes;
     bytes = c.select-in-Riscv64.ensures.bytes went;
     short = c.select-in-Riscv64.ensures.short;
@@ -50,7 +50,7 @@ pub returns-in-X86_64-clause-appended : goal.returns-in-X86_64-clause-appended
 returns-in-X86_64-clause-appended c = λ went. record {
   choices = c.chosen-choices.result;
   chosen = subst (λ needs. choices_of (around c.args.target c.args.node.now (has c.args.live_after) c.args.staged.arguments) needs ≡ Some c.chosen-choices.result) c.needs-needs.ensures c.chosen-choices.ensures;
-  appended = subst (λ target. IsAppended target c.args.node.now c.args.frame c.args.homes (has c.args.live_after) c.args.staged.arguments c.chosen-choices.result c.args.buf.now c.select-in-X86_64.new.buf) (sym c.in-X86_64.is) record {
+  appended = subst (λ target. IsAppended target c.args.node.now c.args.frame c.args.homes c.args.saved (has c.args.live_after) c.args.staged.arguments c.chosen-choices.result c.args.buf.now c.select-in-X86_64.new.buf) (sym c.in-X86_64.is) record {
     ends = c.here-place.ensures.fixes;
     bytes = c.select-in-X86_64.ensures.bytes went;
     short = c.select-in-X86_64.ensures.short;

@@ -27,8 +27,8 @@ pub shortest_items-reach-requires-clause-emittable : goal.shortest_items-reach-r
 shortest_items-reach-requires-clause-emittable c = λ reach few.
     let k = asked-of c.args.node.now (has c.args.live_after) c.args.staged.arguments c.args.choices.now (length c.args.buf.now.labels) c.as_slice-operands.result.now
     c.requires.formed c.requires.choices c.requires.staged c.requires.labels c.requires.immediates c.as_slice-operands.ensures.value c.see_numbers.ensures in
-    let fit = made-fits c.args.homes reach c.args.frame (has c.args.live_after) c.args.staged.arguments c.args.choices.now (length c.args.buf.now.labels) (length c.args.buf.now.bytes)
-    c.args.node.now (node_items c.args.homes reach c.args.node.now c.args.frame c.args.choices.now c.args.staged.arguments (length c.args.buf.now.bytes)) c.requires.frame k refl in
+    let fit = made-fits c.args.homes c.args.saved reach c.args.frame (has c.args.live_after) c.args.staged.arguments c.args.choices.now (length c.args.buf.now.labels) (length c.args.buf.now.bytes)
+    c.args.node.now (node_items c.args.homes c.args.saved reach c.args.node.now c.args.frame c.args.choices.now c.args.staged.arguments (length c.args.buf.now.bytes)) c.requires.frame k refl in
     record { instrs = fit.instrs; names = fit.names; fixed = fit.fixed; small = fit.small }
 
 pub append-requires : goal.append-requires
@@ -47,7 +47,7 @@ asked c =
     asked-of c.args.node.now (has c.args.live_after) c.args.staged.arguments c.args.choices.now (length c.args.buf.now.labels) c.as_slice-operands.result.now
     c.requires.formed c.requires.choices c.requires.staged c.requires.labels c.requires.immediates c.as_slice-operands.ensures.value c.see_numbers.ensures
 
-made : (c : goal.After-append) → c.shortest_items-reach.new.items ≡ node_items c.args.homes c.shortest_items-reach.result c.args.node.now c.args.frame c.args.choices.now c.args.staged.arguments (length c.args.buf.now.bytes)
+made : (c : goal.After-append) → c.shortest_items-reach.new.items ≡ node_items c.args.homes c.args.saved c.shortest_items-reach.result c.args.node.now c.args.frame c.args.choices.now c.args.staged.arguments (length c.args.buf.now.bytes)
 made c = c.shortest_items-reach.ensures.made
 
 few : (c : goal.After-append) → words_in c.shortest_items-reach.new.items ≤ 64
@@ -71,44 +71,44 @@ returns-clause-one_fix c =
 
 pub returns-clause-carries : goal.returns-clause-carries
 returns-clause-carries c = λ went.
-    selected-carries c.args.homes c.shortest_items-reach.result c.args.node.now c.args.frame (has c.args.live_after) c.args.staged.arguments c.args.choices.now c.args.buf.now c.append.new.buf
+    selected-carries c.args.homes c.args.saved c.shortest_items-reach.result c.args.node.now c.args.frame (has c.args.live_after) c.args.staged.arguments c.args.choices.now c.args.buf.now c.append.new.buf
     c.shortest_items-reach.new.items c.requires.frame (asked c) (made c) (few c) record { bytes = c.append.ensures.bytes went; fixes = c.append.ensures.fixes went }
 
 pub returns-clause-instructions : goal.returns-clause-instructions
 returns-clause-instructions c = λ went.
-    selected-whole (x86-selection c.args.homes) c.shortest_items-reach.result c.args.node.now c.args.frame (has c.args.live_after) c.args.staged.arguments c.args.choices.now c.args.buf.now c.append.new.buf
+    selected-whole (x86-selection c.args.homes c.args.saved) c.shortest_items-reach.result c.args.node.now c.args.frame (has c.args.live_after) c.args.staged.arguments c.args.choices.now c.args.buf.now c.append.new.buf
     c.shortest_items-reach.new.items c.requires.frame (asked c) (made c) record { bytes = c.append.ensures.bytes went; fixes = c.append.ensures.fixes went }
 
 pub returns-clause-sparing : goal.returns-clause-sparing
 returns-clause-sparing c = λ went.
-    selected-spares (x86-selection c.args.homes) c.shortest_items-reach.result c.args.node.now c.args.frame (has c.args.live_after) c.args.staged.arguments c.args.choices.now c.args.buf.now c.append.new.buf
+    selected-spares (x86-selection c.args.homes c.args.saved) c.shortest_items-reach.result c.args.node.now c.args.frame (has c.args.live_after) c.args.staged.arguments c.args.choices.now c.args.buf.now c.append.new.buf
     c.shortest_items-reach.new.items c.requires.frame (asked c) (made c) record { bytes = c.append.ensures.bytes went; fixes = c.append.ensures.fixes went }
 
 pub returns-clause-shortest : goal.returns-clause-shortest
 returns-clause-shortest c = λ went.
-    selected-shortest (x86-selection c.args.homes) c.shortest_items-reach.result c.args.node.now c.args.frame (has c.args.live_after) c.args.staged.arguments c.args.choices.now c.args.buf.now c.append.new.buf
+    selected-shortest (x86-selection c.args.homes c.args.saved) c.shortest_items-reach.result c.args.node.now c.args.frame (has c.args.live_after) c.args.staged.arguments c.args.choices.now c.args.buf.now c.append.new.buf
     c.shortest_items-reach.new.items c.requires.frame (asked c) (made c) record { bytes = c.append.ensures.bytes went; fixes = c.append.ensures.fixes went }
-    (λ code d i goal f. node-short c.args.buf.now c.append.new.buf code d i f goal c.args.frame c.args.homes) c.shortest_items-reach.ensures.checked
+    (λ code d i goal f. node-short c.args.buf.now c.append.new.buf code d i f goal c.args.frame c.args.homes c.args.saved) c.shortest_items-reach.ensures.checked
     (λ l goal first bound low. c.shortest_items-reach.ensures.least l goal first bound low)
 
 pub returns-clause-ahead : goal.returns-clause-ahead
 returns-clause-ahead c = λ went.
-    selected-ahead (x86-selection c.args.homes) c.shortest_items-reach.result c.args.node.now c.args.frame (has c.args.live_after) c.args.staged.arguments c.args.choices.now c.args.buf.now c.append.new.buf
+    selected-ahead (x86-selection c.args.homes c.args.saved) c.shortest_items-reach.result c.args.node.now c.args.frame (has c.args.live_after) c.args.staged.arguments c.args.choices.now c.args.buf.now c.append.new.buf
     c.shortest_items-reach.new.items c.requires.frame (asked c) (made c) record { bytes = c.append.ensures.bytes went; fixes = c.append.ensures.fixes went }
-    (λ code d i f. node-ahead c.args.buf.now c.append.new.buf code d i f c.args.frame c.args.homes)
-    (λ l first free low. c.shortest_items-reach.ensures.ahead l first free low)
+    (λ code d i f. node-ahead c.args.buf.now c.append.new.buf code d i f c.args.frame c.args.homes c.args.saved)
+    c.shortest_items-reach.ensures.checked (λ l first free low. c.shortest_items-reach.ensures.ahead l first free low)
 
 pub returns-clause-aligned : goal.returns-clause-aligned
 returns-clause-aligned c =
-    aligned-behind c.args.homes c.shortest_items-reach.result c.append.result c.args.node.now c.args.frame c.args.choices.now c.args.staged.arguments c.args.buf.now c.append.new.buf c.shortest_items-reach.new.items c.requires.formed
+    aligned-behind c.args.homes c.args.saved c.shortest_items-reach.result c.append.result c.args.node.now c.args.frame c.args.choices.now c.args.staged.arguments c.args.buf.now c.append.new.buf c.shortest_items-reach.new.items c.requires.formed
     (made c) c.append.ensures.bytes
 
 pub returns-clause-begins : goal.returns-clause-begins
 returns-clause-begins c =
-    appended-begins (x86-selection c.args.homes) c.shortest_items-reach.result c.append.result c.args.node.now c.args.frame c.args.choices.now c.args.staged.arguments c.args.buf.now c.append.new.buf c.shortest_items-reach.new.items (made c)
+    appended-begins (x86-selection c.args.homes c.args.saved) c.shortest_items-reach.result c.append.result c.args.node.now c.args.frame c.args.choices.now c.args.staged.arguments c.args.buf.now c.append.new.buf c.shortest_items-reach.new.items (made c)
     c.append.ensures.refused c.append.ensures.bytes
 
 pub returns-clause-lead : goal.returns-clause-lead
 returns-clause-lead c = λ went.
-    appended-lead c.args.node.now c.args.buf.now c.args.homes c.shortest_items-reach.result c.args.frame c.args.choices.now c.args.staged.arguments c.append.new.buf c.shortest_items-reach.new.items (made c) (c.append.ensures.fixes went)
+    appended-lead c.args.node.now c.args.buf.now c.args.homes c.args.saved c.shortest_items-reach.result c.args.frame c.args.choices.now c.args.staged.arguments c.append.new.buf c.shortest_items-reach.new.items (made c) (c.append.ensures.fixes went)
     c.shortest_items-reach.ensures.checked
