@@ -1,11 +1,11 @@
 -- How many homes nodes read, one after the other.
 use Rattle.std.proofs.Common.{◌≡◌, ℕ, ◌+◌, ◌-◌, ◌<◌, ◌≤◌, List, [], ◌∷◌, ◌++◌, Option, Some, None, refl, sym, ap, subst, ◌∙◌, arith, length, take, drop}
-use Rattle.std.specs.Prelude.{max, slice_get, slice_range, get_or, if◌then◌else◌}
+use Rattle.std.specs.Prelude.{max, slice_get, slice_range}
 use Rattle.std.specs.Option.{option_map, option_and_then}
 use Rattle.std.proofs.lemmas.List.Edits.{between_more}
 use Rattle.std.proofs.lemmas.Option.{slice_get_within, get_or_from_slice_get}
 use Rattle.lg_op.specs.declared.node.Node.{Node}
-use Rattle.lg_node.specs.Functions.{IsFunction, is_prolog_at, function_of}
+use Rattle.lg_node.specs.Functions.{IsFunction, function_of}
 use Rattle.lg_node.specs.Nodes.{LabelledNodes}
 use Rattle.lg_node.specs.Shapes.{TextShape, IsShapeOf}
 use Rattle.lg_node.specs.declared.function.Function.{Function}
@@ -13,7 +13,6 @@ use Rattle.lg_node.proofs.SuccessorLaws.{has_functions}
 use Rattle.lg_meaning.proofs.NodeFacts.{function_found}
 use Rattle.lg_meaning.specs.Steps.{function_here}
 use Rattle.lg_carry.specs.Homes.{homes_by, homes_of, homes_in}
-use Rattle.lg_asm.specs.Lowered.{stored_homes}
 
 pub none-read : (nodes : List Node) (p : ℕ) → 0 ≡ homes_of (slice_range nodes p p)
 none-read nodes p = let e : p - p ≡ 0 = omega arith in subst (λ k. 0 ≡ homes_of (take k (drop p nodes))) (sym e) refl

@@ -1,5 +1,5 @@
 -- Frames save what is live at the returns of calls.
-use Rattle.std.proofs.Common.{◌≡◌, ℕ, zero, suc, ◌+◌, ◌<◌, ◌≤◌, ◌⊎◌, Bool, true, false, List, Option, Some, None, refl, sym, ap, ◌∙◌, subst, arith, length, ⊎_elim}
+use Rattle.std.proofs.Common.{◌≡◌, ℕ, zero, suc, ◌+◌, ◌<◌, ◌≤◌, Bool, true, false, List, Option, Some, None, refl, sym, ap, ◌∙◌, arith, length, ⊎_elim}
 use Rattle.std.specs.Prelude.{max, slice_get, if◌then◌else◌}
 use Rattle.std.proofs.lemmas.Bool.{cases_lt}
 use Rattle.std.proofs.lemmas.Option.{slice_get_within}
@@ -7,14 +7,13 @@ use Rattle.lg_live.specs.RegSets.{has}
 use Rattle.lg_live.specs.declared.reg_set.RegSet.{RegSet}
 use Rattle.lg_live.specs.Liveness.{LiveSets}
 use Rattle.lg_meaning.specs.Fits.{is_call}
-use Rattle.lg_meaning.specs.States.{Frame}
 use Rattle.lg_op.specs.declared.node.Node.{Node}
 use Rattle.lg_op.specs.declared.operand.Reg.TheVariants.{V0, V1, V2}
 use Rattle.lg_carry.specs.FinalNodes.{Code}
 use Rattle.lg_carry.specs.NodeCode.{numbered, IsLiveness, SavesLive}
 use Rattle.lg_asm.specs.CarriedLiveness.{live_at}
 use Rattle.lg_asm.specs.NodeChoices.{set_behind}
-use Rattle.lg_asm.specs.Lowered.{saves_for, saves_by, saves_in, frame_saves}
+use Rattle.lg_asm.specs.Lowered.{saves_for, saves_by, saves_in, frame_saves, AreDeadFrom, FramesSaveFew}
 
 -- a register that is live is among the first ones
 among : (v2 v1 v0 : Bool) (v : ℕ) → (v ≡ 0 → v0 ≡ true) → (v ≡ 1 → v1 ≡ true) → (v ≡ 2 → v2 ≡ true) → v < 3
@@ -67,3 +66,32 @@ saves-live c nodes sets saved calls live f i m back here is v lt l =
     ap (λ o. saves_by o (set_behind sets i)) n.1 ∙ ap (λ b. if b then saves_for (set_behind sets i) else 0) n.2 in
     let all = within nodes sets i (length nodes) (slice_get_within nodes i n.0 n.1) in
     omega (arith, own, by, all, saved)
+
+-- ---- no more
+few-for : (v2 v1 v0 : Bool) (k : ℕ) → (k ≤ 2 → v2 ≡ false) → (k ≤ 1 → v1 ≡ false) → (k ≤ 0 → v0 ≡ false)
+    → (if v2 then 3 else if v1 then 2 else if v0 then 1 else 0) ≤ k
+few-for true v1 v0 k a b c = ⊎_elim (λ (lt : k < 3). let e = a (omega (arith, lt)) in cc) (λ (ge : 3 ≤ k). ge) (cases_lt k 3)
+few-for false true v0 k a b c = ⊎_elim (λ (lt : k < 2). let e = b (omega (arith, lt)) in cc) (λ (ge : 2 ≤ k). ge) (cases_lt k 2)
+few-for false false true k a b c = ⊎_elim (λ (lt : k < 1). let e = c (omega (arith, lt)) in cc) (λ (ge : 1 ≤ k). ge) (cases_lt k 1)
+few-for false false false k a b c = omega arith
+
+by-few : (o : Option Node) (set : RegSet) (k : ℕ)
+    → ((n : Node) → o ≡ Some n → is_call n.op ≡ true → (v : ℕ) → k ≤ v → v < 3 → numbered (has set) (v + 3) ≡ false) → saves_by o set ≤ k
+by-few None set k h = omega arith
+by-few (Some n) set k h = by (is_call n.op) refl
+  where
+    by : (b : Bool) → is_call n.op ≡ b → (if b then saves_for set else 0) ≤ k
+    by true e =
+        few-for (has set V2) (has set V1) (has set V0) k (λ le. h n refl e 2 le (omega arith)) (λ le. h n refl e 1 le (omega arith))
+        (λ le. h n refl e 0 le (omega arith))
+    by false e = omega arith
+
+in-few : (nodes : List Node) (sets : LiveSets) (k count : ℕ) → AreDeadFrom nodes sets k → saves_in nodes sets count ≤ k
+unfolding saves_in
+in-few nodes sets k zero h = omega arith
+in-few nodes sets k (suc i) h =
+    let before = in-few nodes sets k i h in
+    let here = by-few (slice_get nodes i) (set_behind sets i) k (λ n e. h i n e) in omega (arith, before, here)
+
+pub frames-save-few : FramesSaveFew
+frames-save-few nodes sets k h = in-few nodes sets k (length nodes) h

@@ -1,8 +1,8 @@
 -- Code agrees with the portable meaning whatever changes below the stack pointer between two instructions.
-use Rattle.std.proofs.Common.{◌≡◌, ℕ, ◌+◌, ◌^◌, ◌<◌, ◌≤◌, ◌⊎◌, inl, inr, ⊎_elim, true, List, [], length, ap, ◌∙◌, arith}
-use Rattle.std.specs.Prelude.{slice_index, slice_get}
+use Rattle.std.proofs.Common.{ℕ, ◌+◌, ◌^◌, ◌<◌, ◌≤◌, inl, inr, ⊎_elim, List, length, ap, arith}
+use Rattle.std.specs.Prelude.{slice_index}
 use Rattle.std.proofs.lemmas.Bool.{cases_lt}
-use Rattle.lg_base.specs.Layout.{code_base, most_code}
+use Rattle.lg_base.specs.Layout.{code_base}
 use Rattle.lg_base.specs.declared.target.Target.{Target}
 use Rattle.lg_base.specs.declared.target.Target.TheVariants.{X86_64, Aarch64, Riscv64}
 use Rattle.lg_node.proofs.SuccessorLaws.{has_functions}
@@ -14,7 +14,7 @@ use Rattle.lg_meaning.proofs.MeanLemmas.{mean_fits}
 use Rattle.lg_carry.specs.FinalNodes.{Code}
 use Rattle.lg_carry.specs.Disturbed.{disturbed}
 use Rattle.lg_carry.specs.Places.{ArePassedFew}
-use Rattle.lg_carry.specs.Undisturbed.{IsBlind, IsPlaced, Withstands}
+use Rattle.lg_carry.specs.Undisturbed.{IsBlind, IsPlaced}
 use Rattle.lg_carry.proofs.HoldingLemmas.{carried-withstand}
 use Rattle.lg_carry.proofs.TextShapeLemmas.{shaped}
 use Rattle.lg_carry.proofs.UndisturbedLemmas.{disturbed-is-machine, withstands-carries}

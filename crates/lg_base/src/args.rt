@@ -85,10 +85,8 @@ pub fn args_image(alloc: Global, words: &Vec<String>) -> Result<ArgImage, Stop>
             line: 0,
         }));
     }
-    match build(alloc, words) {
-        Ok(image) => Ok(image),
-        Err(OutOfMemory) => Err(Stop::OutOfMemory),
-    }
+    let image = build(alloc, words)?;
+    Ok(image)
 }
 
 // The word of 8 bytes at a place, the lowest byte first.

@@ -14,7 +14,7 @@ use std::alloc::Global;
 use std::marker::Model;
 
 /// Bytes that are only appended to, with labels, and with fixes, whose fields are patched at the end. No call but
-/// `new` takes memory.
+/// `new` and `with_capacity` takes memory.
 ///
 /// In a contract a `CodeBuf` is a `Buffer`: the bytes, the size that code may have, how many bytes there is room for, the
 /// place of each label, the fixes that are still to be patched, how many more fixes there can be, and the allocator.
@@ -104,14 +104,14 @@ impl CodeBuf {
         })
     }
 
-    /// The allocator that `new` was given.
+    /// The allocator that the buffer was made with.
     pub fn allocator(&self) -> Global
         ensures { result ≡ self.now.allocator }
     {
         self.allocator
     }
 
-    /// How many bytes the code may have: the size that `new` was given.
+    /// How many bytes the code may have: the size that the buffer was made with.
     pub fn size(&self) -> u32
         ensures { result ≡ self.now.size }
     {
@@ -173,7 +173,7 @@ impl CodeBuf {
     }
 
     /// Makes a fix: at the end its field is to lead to the place of the label, which is one of the buffer's. The fix's
-    /// bytes were appended, none of them belongs to another fix, and fewer fixes than `new` was asked for were made.
+    /// bytes were appended, none of them belongs to another fix, and fewer fixes were made than the buffer has room for.
     pub fn fix(&mut self, place: u32, kind: FixKind, label: CodeLabel)
         requires emitted { place + fix_len kind ≤ length self.old.bytes }
         requires apart { All (λ f. AreApart f (record { place = place; kind = kind; label = label })) self.old.fixes }

@@ -32,7 +32,7 @@ pub enum FixKind {
     RvAuipcJalr,
 }
 
-/// A label of a buffer, by its number from 0, below the number that `CodeBuf::new` was given.
+/// A label of a buffer, by its number from 0, below the number that the buffer was made with.
 #[derive(Clone, Copy, PartialEq, Eq)]
 pub struct CodeLabel(pub u32);
 

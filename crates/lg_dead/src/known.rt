@@ -1,6 +1,6 @@
 // Which numbers registers are known to hold.
 
-ghost use Rattle.std.specs.Prelude.{◌≡◌, if◌then◌else◌, true, false, None, Some};
+ghost use Rattle.std.specs.Prelude.{◌≡◌, if◌then◌else◌, not, true, false, None, Some};
 ghost use Rattle.lg_op.specs.declared.operand.Reg.{Reg};
 ghost use Rattle.lg_op.specs.declared.operand.Reg.TheVariants.{R0, R1, R2, V0, V1, V2};
 ghost use Rattle.lg_live.specs.Registers.{is_same};
@@ -79,7 +79,7 @@ impl Known {
 
     /// Whether nothing is known.
     pub fn is_none(&self) -> bool
-        ensures { result ≡ true → self.now.some ≡ false }
+        ensures { result ≡ not self.now.some }
     {
         !self.some
     }

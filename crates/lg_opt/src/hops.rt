@@ -1,6 +1,6 @@
 // Where jumps lead: a table with the node to which the jumps from each node lead in the end.
 
-ghost use Rattle.std.specs.Prelude.{◌≡◌, ◌<◌, ◌+◌, ◌==◌, ◌||◌, not, ℕ, false, length, IfOk};
+ghost use Rattle.std.specs.Prelude.{◌≡◌, ◌<◌, ◌+◌, ◌==◌, ◌||◌, not, ℕ, true, false, length, IsTrue, IfOk};
 ghost use Rattle.lg_node.specs.Nodes.{LabelledNodes};
 ghost use Rattle.lg_opt.specs.Hops.{AreHops, AreLeads, AreWithin, JumpsWithin, hop, is_jump, jump_at};
 ghost use Rattle.lg_opt.specs.Targets.{target_node};
@@ -67,7 +67,8 @@ pub fn is_jump(op: Op) -> bool
 
 /// Whether some node is an unconditional jump to a label.
 pub fn any_jumps(nodes: &NodeList) -> bool
-    ensures { result ≡ false → (i : ℕ) → jump_at nodes.now i ≡ false }
+    ensures none { result ≡ false → (i : ℕ) → jump_at nodes.now i ≡ false }
+    ensures some { IsTrue result → (i : ℕ) × (jump_at nodes.now i ≡ true) }
 {
     for index in 0..nodes.len() {
         if is_jump(nodes.node(index).op) {

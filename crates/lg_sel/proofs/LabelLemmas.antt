@@ -1,5 +1,5 @@
 -- The labels of a node's operands, by a test that they pass; they pass that of being named by the node.
-use Rattle.std.proofs.Common.{◌≡◌, ℕ, zero, suc, Bool, true, false, List, [], ◌∷◌, refl, ap, arith}
+use Rattle.std.proofs.Common.{◌≡◌, ℕ, zero, suc, Bool, true, List, [], ◌∷◌, ap, arith}
 use Rattle.std.specs.Prelude.{◌==◌, ◌||◌, ⊤, slice_index_or}
 use Rattle.std.specs.List.{list_any}
 use Rattle.std.proofs.lemmas.Bool.Decides.{nat_tests}

@@ -1,6 +1,6 @@
 -- The operands of nodes: their numbers, and where labels stand.
 use Rattle.std.proofs.Common.{◌≡◌, ℕ, zero, suc, ◌^◌, ◌<◌, Bool, true, false, List, [], ◌∷◌, refl, sym, ◌∙◌, arith}
-use Rattle.std.specs.Prelude.{slice_index_or, ◌||◌, ◌&&◌}
+use Rattle.std.specs.Prelude.{slice_index_or, ◌&&◌}
 use Rattle.std.specs.List.{list_any}
 use Rattle.std.proofs.lemmas.Bool.{and_parts, or_from, or_parts}
 use Rattle.lg_carry.specs.FinalNodes.{Code}

@@ -1,6 +1,6 @@
 -- What `select` owes for the items of a node that it appends, where those of each family are as they have to be.
 use Rattle.std.proofs.Common.{◌≡◌, ℕ, ◌+◌, ◌-◌, ◌<◌, ◌≤◌, Bool, true, false, List, ◌++◌, length, None, Some, ap, ◌∙◌, subst, arith}
-use Rattle.std.specs.Prelude.{IsTrue, count_by, nat_le, slice_get, slice_index}
+use Rattle.std.specs.Prelude.{IsTrue, slice_get, slice_index}
 use Rattle.lg_base.specs.Layout.{code_base, most_code}
 use Rattle.lg_base.specs.declared.target.Target.{Target}
 use Rattle.lg_buf.specs.Buffers.{Buffer, place_of}
@@ -22,15 +22,15 @@ use Rattle.lg_sel.proofs.FamilyLemmas.{node_of}
 use Rattle.lg_sel.proofs.FinishedLemmas.{items-are-sparing, items-are-whole}
 use Rattle.lg_sel.proofs.LabelLemmas.{names}
 use Rattle.lg_sel.proofs.ReachLemmas.{same-label}
-use Rattle.lg_sel.proofs.StoreLemmas.{allowed, allowed-all}
+use Rattle.lg_sel.proofs.StoreLemmas.{allowed}
 use Rattle.lg_sel.specs.Asked.{IsAsked}
 use Rattle.lg_sel.specs.Families.{Families, node_items}
 use Rattle.lg_sel.specs.Finished.{AreAppended}
 use Rattle.lg_sel.specs.Promises.{IsShortWhenFinished, IsAheadWhenFinished}
 use Rattle.lg_sel.specs.Selected.{IsFrame, IsFinished, AreWhole, part_of}
 use Rattle.lg_sel.specs.Shorts.{IsShort, IsAhead}
-use Rattle.lg_sel.specs.Stores.{StoresAtMost, own_stores, is_free}
-use Rattle.lg_sel.specs.Holes.{Holes, Each, AreHoles, blanks, settled, fixes_of}
+use Rattle.lg_sel.specs.Stores.{StoresAtMost, own_stores}
+use Rattle.lg_sel.specs.Holes.{Holes, Each, AreHoles, blanks, fixes_of}
 use Rattle.lg_sel.specs.Reaches.{reach_ahead, Leads, IsChecked, IsLeast, IsLeastAhead}
 use Rattle.lg_sel.specs.declared.reach.Reach.{Reach}
 use Rattle.lg_temp.specs.Chosen.{spills}
@@ -59,19 +59,19 @@ pub record IsKnownAhead {L I : Type 0} (H : Holes L I) (is_item : L → Type 0) 
   pub least : IsLeastAhead (reach_ahead old.size) (λ s. Each (Leads old) (fixes_of H (length old.bytes) (items s))) r
 
 -- of each node the items name the labels of its operands, store no more than they may, and are in range; those of a `prolog` have bytes
-pub record IsSelection {L I : Type 0} (target : Target) (needs : Op → List Need) (H : Holes L I) (spelling : I → List ℕ) (fits : I → Type 0) (is_item : L → Type 0)
+pub record IsSelection {L I : Type 0} (target : Target) (homes saved : ℕ) (needs : Op → List Need) (H : Holes L I) (spelling : I → List ℕ) (fits : I → Type 0) (is_item : L → Type 0)
     (is_store : I → Bool) (passes : Reach → (ℕ → Bool) → L → Type 0) (F : Reach → Families L) : Type 0 where
   pub holes : AreHoles H spelling fits is_item
   pub emits : (reach : Reach) (frame : ℕ) (choices : List Choice) (staged : List Bool) (place : ℕ) (n : Node)
-      → Emits H is_store (passes reach (names n.operands)) 1 (allowed target choices n.op) (node_items (F reach) n frame choices staged place)
+      → Emits H is_store (passes reach (names n.operands)) 1 (allowed target homes saved choices n.op) (node_items (F reach) n frame choices staged place)
   pub fit : (reach : Reach) (frame : ℕ) (live : Reg → Bool) (staged : List Bool) (choices : List Choice) (labels place : ℕ) (n : Node) → IsFrame frame
       → IsAsked target needs n live staged choices labels → Each is_item (node_items (F reach) n frame choices staged place)
   pub begins : (reach : Reach) (o : Op) (xs : List Operand) (line frame : ℕ) (choices : List Choice) (staged : List Bool) (place : ℕ) → is_prolog o ≡ true
       → 0 < length (blanks H (node_items (F reach) (node_of o xs line) frame choices staged place))
 
-module _ {L I : Type 0} {target : Target} {needs : Op → List Need} {H : Holes L I} {spelling : I → List ℕ} {fits : I → Type 0} {is_item : L → Type 0}
+module _ {L I : Type 0} {target : Target} {homes saved : ℕ} {needs : Op → List Need} {H : Holes L I} {spelling : I → List ℕ} {fits : I → Type 0} {is_item : L → Type 0}
     {is_store : I → Bool} {passes : Reach → (ℕ → Bool) → L → Type 0} {F : Reach → Families L}
-    (ok : IsSelection target needs H spelling fits is_item is_store passes F) where
+    (ok : IsSelection target homes saved needs H spelling fits is_item is_store passes F) where
   -- the items are those of the node
   module _ (reach : Reach) (node : Node) (frame : ℕ) (live : Reg → Bool) (staged : List Bool) (choices : List Choice) (old new : Buffer) (items : List L)
       (sized : IsFrame frame) (asked : IsAsked target needs node live staged choices (length old.labels))
@@ -91,13 +91,12 @@ module _ {L I : Type 0} {target : Target} {needs : Op → List Need} {H : Holes 
     selected-whole code c i f = items-are-whole H spelling fits is_item ok.holes old new code c i mine own fit f
 
     -- which store seldom
-    pub selected-spares : (code : List ℕ) (c : Code) (i : ℕ) → is_free node.op ≡ false → IsFinished old new code c i
-        → StoresAtMost spelling fits is_store (spills choices + own_stores target node.op) (part_of code (length old.bytes) (length new.bytes - length old.bytes))
-    selected-spares code c i other f =
+    pub selected-spares : (code : List ℕ) (c : Code) (i : ℕ) → IsFinished old new code c i
+        → StoresAtMost spelling fits is_store (spills choices + own_stores target homes saved node.op) (part_of code (length old.bytes) (length new.bytes - length old.bytes))
+    selected-spares code c i f =
         let emits = ok.emits reach frame choices staged (length old.bytes) node in
-        let few = stores-counted H is_store (passes reach (names node.operands)) 1 (allowed target choices node.op) mine emits (slice_index c.addresses) (c.place i) in
-        items-are-sparing H spelling fits is_item ok.holes is_store old new code c i mine (spills choices + own_stores target node.op) own fit
-        (allowed-all target choices node.op (count_by is_store (settled H (slice_index c.addresses) (c.place i) mine)) other few) f
+        items-are-sparing H spelling fits is_item ok.holes is_store old new code c i mine (allowed target homes saved choices node.op) own fit
+        (stores-counted H is_store (passes reach (names node.operands)) 1 (allowed target homes saved choices node.op) mine emits (slice_index c.addresses) (c.place i)) f
 
     -- and where those of nodes that lead to labels have the shortest form, they have
     module _ (short : (code : List ℕ) (c : Code) (i goal : ℕ) → IsFinished old new code c i → (r : Reach) (o : Op) (xs : List Operand) (l : Label)

@@ -1,15 +1,12 @@
 -- How many of some instructions store, and how many of those of a node may.
-use Rattle.std.proofs.Common.{◌≡◌, ℕ, suc, ◌+◌, ◌≤◌, Bool, true, false, List, [], ◌∷◌, ◌++◌, refl, ap, arith, length}
+use Rattle.std.proofs.Common.{◌≡◌, ℕ, suc, ◌+◌, ◌≤◌, Bool, true, false, List, [], ◌∷◌, ◌++◌, refl, arith, length}
 use Rattle.std.specs.Prelude.{cond, count_by, if◌then◌else◌}
 use Rattle.std.proofs.lemmas.List.Recursion.{is_count_by}
 use Rattle.lg_base.specs.declared.target.Target.{Target}
 use Rattle.lg_op.specs.declared.op.Op.{Op}
-use Rattle.lg_op.specs.declared.op.Op.TheVariants as op
-use Rattle.lg_op.specs.declared.op.PlainOp.TheVariants as plain
 use Rattle.lg_sel.specs.Control.Stores.{stores_below}
 use Rattle.lg_sel.proofs.OfControl.StoreLemmas.{stores-long}
-use Rattle.lg_carry.specs.Values.ValueNodes.{is_value}
-use Rattle.lg_sel.specs.Stores.{own_stores, is_free}
+use Rattle.lg_sel.specs.Stores.{own_stores}
 use Rattle.lg_temp.specs.Chosen.{spills}
 use Rattle.lg_temp.specs.declared.choice.Choice.{Choice}
 
@@ -56,24 +53,6 @@ module _ {I : Type 0} (is_store : I → Bool) where
   none-if false is js a c = c
 
 -- ---- of a node
--- how many its code may have: any number at a `prolog`, of which 16 is enough
-abbrev pub allowed : Target → List Choice → Op → ℕ
-allowed target choices o = if is_free o then 16 else spills choices + own_stores target o
-
-pub allowed-values : (target : Target) (choices : List Choice) (o : Op) → is_value o ≡ true → spills choices ≤ allowed target choices o
-allowed-values target choices (op.Binary o last) is = omega arith
-allowed-values target choices (op.Wide o last) is = omega arith
-allowed-values target choices (op.Unary o) is = omega arith
-allowed-values target choices (op.Plain plain.Movi) is = omega arith
-allowed-values target choices (op.Plain plain.VaStart) is = omega arith
-allowed-values target choices (op.Retval t) is = omega arith
-allowed-values target choices o is = cc
-
-pub allowed-own : (target : Target) (choices : List Choice) (o : Op) → is_free o ≡ false → own_stores target o ≤ allowed target choices o
-allowed-own target choices o other = let e = ap (λ b. if b then 16 else spills choices + own_stores target o) other in omega (arith, e)
-
-pub allowed-all : (target : Target) (choices : List Choice) (o : Op) (n : ℕ) → is_free o ≡ false → n ≤ allowed target choices o → n ≤ spills choices + own_stores target o
-allowed-all target choices o n other h = let e = ap (λ b. if b then 16 else spills choices + own_stores target o) other in omega (arith, e, h)
-
-pub allowed-free : (target : Target) (choices : List Choice) (o : Op) → is_free o ≡ true → allowed target choices o ≡ 16
-allowed-free target choices o free = ap (λ b. if b then 16 else spills choices + own_stores target o) free
+-- how many its code may have, where a `prolog` stores so many homes and saves so many of V0, V1 and V2
+abbrev pub allowed : Target → ℕ → ℕ → List Choice → Op → ℕ
+allowed target homes saved choices o = spills choices + own_stores target homes saved o

@@ -1,5 +1,5 @@
 -- How many stores the code of a node has, on every target.
-use Rattle.std.specs.Prelude.{◌≡◌, ℕ, ◌≤◌, Bool, true, false, List, count_by}
+use Rattle.std.specs.Prelude.{◌≡◌, ℕ, ◌+◌, ◌≤◌, Bool, true, false, List, count_by}
 use Rattle.std.specs.List.{All}
 use Rattle.lg_a64.specs.Spelling as a64
 use Rattle.lg_a64.specs.declared.instruction.Instr.{Instr as A64Instr}
@@ -55,16 +55,17 @@ abbrev pub rows_stored : Target → StoreType → ℕ
 rows_stored Riscv64 t = rows_stored_rv t
 rows_stored target t = 1
 
--- the stores that a node has beside those that save its temporaries
-abbrev pub own_stores : Target → Op → ℕ
-own_stores target (op.Store t at) = rows_stored target t
-own_stores target (op.Control control.Pusharg last) = 1
-own_stores target o = 0
+-- a frame begins with the caller's FP, and with the return address where no call leaves it on the stack
+abbrev pub frame_stores : Target → ℕ
+frame_stores X86_64 = 1
+frame_stores target = 2
 
--- a `prolog` may have any number
-abbrev pub is_free : Op → Bool
-is_free (op.Plain plain.Prolog) = true
-is_free o = false
+-- the stores that a node has beside those that save its temporaries: a `prolog` stores so many homes of arguments, and saves so many of V0, V1 and V2
+abbrev pub own_stores : Target → ℕ → ℕ → Op → ℕ
+own_stores target homes saved (op.Store t at) = rows_stored target t
+own_stores target homes saved (op.Control control.Pusharg last) = 1
+own_stores target homes saved (op.Plain plain.Prolog) = frame_stores target + homes + saved
+own_stores target homes saved o = 0
 
 -- ---- bytes that store seldom
 -- they are the spellings, in a row, of instructions of which at most so many store

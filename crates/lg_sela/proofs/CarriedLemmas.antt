@@ -79,7 +79,7 @@ prolog-some homes saved reach (op.Plain plain.Prolog) xs line frame choices stag
 prolog-some homes saved reach o xs line frame choices staged place is = cc
 
 -- the items of each node, as `select` asks for them
-pub a64-selection : (homes saved : ℕ) → IsSelection Aarch64 needs a64_holes spelling IsInstr IsItem a64_stores Names (a64_families homes saved)
+pub a64-selection : (homes saved : ℕ) → IsSelection Aarch64 homes saved needs a64_holes spelling IsInstr IsItem a64_stores Names (a64_families homes saved)
 a64-selection homes saved = record {
   holes = are-holes;
   emits = node-emits homes saved;

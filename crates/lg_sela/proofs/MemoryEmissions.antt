@@ -2,9 +2,8 @@
 use Rattle.std.proofs.Common.{ℕ, ◌-◌, ◌/◌, ◌≤◌, Bool, true, false, [], ◌∷◌, ◌++◌, refl, arith}
 use Rattle.std.specs.Prelude.{nat_lt, slice_index, if◌then◌else◌}
 use Rattle.lg_a64.specs.declared.instruction.ImmOp.TheVariants.{Addi, Subi}
-use Rattle.lg_a64.specs.declared.instruction.Instr.{Instr}
 use Rattle.lg_a64.specs.declared.instruction.Instr.TheVariants as instr
-use Rattle.lg_a64.specs.declared.instruction.UnscaledOp.TheVariants.{Ldur, Stur}
+use Rattle.lg_a64.specs.declared.instruction.UnscaledOp.TheVariants.{Stur}
 use Rattle.lg_a64.specs.declared.instruction.RegOp.TheVariants as reg
 use Rattle.lg_a64.specs.declared.instruction.ScaledOp.TheVariants.{Str64}
 use Rattle.lg_base.specs.Conventions.{argument_registers}

@@ -16,7 +16,7 @@ use Rattle.lg_carry.specs.Nodes.Operands.{HaveWords, NameBelow}
 use Rattle.lg_sel.specs.Selected.{AreFirst, IsFrame, TakesLabelsWell, is_pusharg}
 use Rattle.lg_sel.specs.Stores.{a64_stores}
 use Rattle.lg_sel.specs.declared.reach.Reach.{Reach}
-use Rattle.lg_sela.proofs.ControlEmissions.{controls-emit, prologs-emit}
+use Rattle.lg_sela.proofs.ControlEmissions.{controls-emit}
 use Rattle.lg_sela.proofs.Emissions.{Names, Emits, more}
 use Rattle.lg_sela.proofs.MemoryEmissions.{loads-emit, stores-emit, arguments-emit, next-arguments-emit, pushes-emit}
 use Rattle.lg_carry.proofs.OfNodes.GivenLemmas.{are-given}
@@ -45,7 +45,7 @@ choices-fit n live staged choices k =
     (values.few, values.slots)
 
 -- ---- labels, fixes and stores
-families-emit : (homes saved : ℕ) (reach : Reach) → emission.FamiliesEmit Aarch64 a64_holes a64_stores (Names reach) (a64_families homes saved reach)
+families-emit : (homes saved : ℕ) (reach : Reach) → emission.FamiliesEmit Aarch64 homes saved a64_holes a64_stores (Names reach) (a64_families homes saved reach)
 families-emit homes saved reach = record {
   values = λ is frame n choices h. values-emit reach is n choices h;
   loads = λ is frame t at n choices. more reach is 1 1 0 (spills choices) (ones (load_code t at n)) (omega arith) (omega arith) (loads-emit reach is t at n);
@@ -54,11 +54,10 @@ families-emit homes saved reach = record {
   next_arguments = λ is n. next-arguments-emit reach is n;
   pushes = λ is frame j n h. pushes-emit reach is j n h;
   controls = λ is o xs frame at. controls-emit reach is o xs frame homes saved at;
-  prologs = λ is o xs frame at. prologs-emit reach is o xs frame homes saved at;
 }
 
-pub node-emits : (homes saved : ℕ) (reach : Reach) (frame : ℕ) (choices : List Choice) (staged : List Bool) (place : ℕ) (n : Node) → Emits reach (names n.operands) 1 (allowed Aarch64 choices n.op) (node_items homes saved reach n frame choices staged place)
-node-emits homes saved reach frame choices staged place n = emission.node-emits Aarch64 a64_holes a64_stores (Names reach) (a64_families homes saved reach) (families-emit homes saved reach) frame choices staged place n (names n.operands) (all-self n.operands)
+pub node-emits : (homes saved : ℕ) (reach : Reach) (frame : ℕ) (choices : List Choice) (staged : List Bool) (place : ℕ) (n : Node) → Emits reach (names n.operands) 1 (allowed Aarch64 homes saved choices n.op) (node_items homes saved reach n frame choices staged place)
+node-emits homes saved reach frame choices staged place n = emission.node-emits Aarch64 homes saved a64_holes a64_stores (Names reach) (a64_families homes saved reach) (families-emit homes saved reach) frame choices staged place n (names n.operands) (all-self n.operands)
 
 -- ---- ranges
 abbrev Fit : ℕ → ℕ → Reach → ℕ → List Item → Type 0

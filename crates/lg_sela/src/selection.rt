@@ -34,7 +34,7 @@ use lg_temp::{Choices, Staged};
 /// a label that is bound has the shortest form that reaches it, and code that leads ahead to one that is not the near form, or in a buffer of more than 1
 /// MiB the far one. Once the fixes of the buffer are patched, the code is whole instructions, and carries the node where the registers of `live_after` are
 /// live behind it: no step of it but one of a host function changes a register that is outside of the conventions. It has one store for each choice that
-/// saves a register, and one more at stores, `pushargr` and `pushargi`; that of a `prolog` may have more.
+/// saves a register, one more at stores, `pushargr` and `pushargi`, and at a `prolog` at most two more than `homes` and `saved` together.
 #[must_use]
 pub fn select(
     node: &Node,
@@ -68,7 +68,7 @@ pub fn select(
     ensures shortest { IsTrue result → IsShortWhenFinished Target.Aarch64 node.now buf.old buf.new }
     ensures ahead { IsTrue result → IsAheadWhenFinished Target.Aarch64 node.now buf.old buf.new }
     ensures instructions { IsTrue result → AreInstructionsWhenFinished Target.Aarch64 buf.old buf.new }
-    ensures sparing { IsTrue result → IsSparingWhenFinished Target.Aarch64 node.now choices.now buf.old buf.new }
+    ensures sparing { IsTrue result → IsSparingWhenFinished Target.Aarch64 node.now homes saved choices.now buf.old buf.new }
     ensures carries { IsTrue result → IsCarriedWhenFinished Target.Aarch64 node.now frame homes saved (has live_after) staged.arguments buf.old buf.new }
 {
     let operands = node.operands.as_slice();

@@ -132,7 +132,7 @@ mask_code d a v = Bitfield Ubfm d a 0 (mask_width v - 1) ∷ []
 abbrev pub mask_form_code : ℕ → ℕ → ℕ → ℕ → List Instr
 mask_form_code u d a v = if is_mask v then mask_code d a v else loaded_code binary.And u d a v
 
--- d = a op v; a shift by 64 or more is undefined
+-- d = a op v; a count of 64 or more is taken modulo 64
 abbrev pub number_form_code : BinaryOp → ℕ → ℕ → ℕ → ℕ → List Instr
 number_form_code binary.Lsh u d a v = Bitfield Ubfm d a ((64 - v % 64) % 64) (63 - v % 64) ∷ []
 number_form_code binary.Rsh u d a v = Bitfield Sbfm d a (v % 64) 63 ∷ []

@@ -68,7 +68,7 @@ prolog-some homes saved reach (op.Plain plain.Prolog) xs line frame choices stag
 prolog-some homes saved reach o xs line frame choices staged place is = cc
 
 -- the items of each node, as `select` asks for them
-pub x86-selection : (homes saved : ℕ) → IsSelection X86_64 needs x86_holes spelling IsInstr IsItem x86_stores Names (x86_families homes saved)
+pub x86-selection : (homes saved : ℕ) → IsSelection X86_64 homes saved needs x86_holes spelling IsInstr IsItem x86_stores Names (x86_families homes saved)
 x86-selection homes saved = record {
   holes = are-holes;
   emits = node-emits homes saved;

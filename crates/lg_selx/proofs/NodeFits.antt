@@ -18,7 +18,7 @@ use Rattle.lg_carry.specs.Nodes.Operands.{HaveWords, NameBelow}
 use Rattle.lg_sel.specs.Selected.{AreFirst, IsFrame, TakesLabelsWell, is_pusharg}
 use Rattle.lg_sel.specs.Stores.{x86_stores}
 use Rattle.lg_sel.specs.declared.reach.Reach.{Reach}
-use Rattle.lg_selx.proofs.ControlEmissions.{controls-emit, prologs-emit}
+use Rattle.lg_selx.proofs.ControlEmissions.{controls-emit}
 use Rattle.lg_selx.proofs.Emissions.{Names, Emits, more}
 use Rattle.lg_selx.proofs.MemoryEmissions.{loads-emit, stores-emit, arguments-emit, next-arguments-emit, pushes-emit}
 use Rattle.lg_carry.proofs.OfNodes.GivenLemmas.{are-given}
@@ -42,7 +42,7 @@ use Rattle.lg_temp.specs.Chosen.{around, spills}
 use Rattle.lg_temp.specs.declared.choice.Choice.{Choice}
 
 -- ---- labels, fixes and stores
-families-emit : (homes saved : ℕ) (reach : Reach) → emission.FamiliesEmit X86_64 x86_holes x86_stores (Names reach) (x86_families homes saved reach)
+families-emit : (homes saved : ℕ) (reach : Reach) → emission.FamiliesEmit X86_64 homes saved x86_holes x86_stores (Names reach) (x86_families homes saved reach)
 families-emit homes saved reach = record {
   values = λ is frame n choices h. values-emit reach is frame n choices h;
   loads = λ is frame t at n choices. more reach is 1 1 0 (spills choices) (ones (load_code frame t at n)) (omega arith) (omega arith) (loads-emit reach is frame t at n);
@@ -51,11 +51,10 @@ families-emit homes saved reach = record {
   next_arguments = λ is n. next-arguments-emit reach is n;
   pushes = λ is frame j n h. pushes-emit reach is frame j n h;
   controls = λ is o xs frame at. controls-emit reach is o xs frame homes saved at;
-  prologs = λ is o xs frame at. prologs-emit reach is o xs frame homes saved at;
 }
 
-pub node-emits : (homes saved : ℕ) (reach : Reach) (frame : ℕ) (choices : List Choice) (staged : List Bool) (place : ℕ) (n : Node) → Emits reach (names n.operands) 1 (allowed X86_64 choices n.op) (node_items homes saved reach n frame choices staged place)
-node-emits homes saved reach frame choices staged place n = emission.node-emits X86_64 x86_holes x86_stores (Names reach) (x86_families homes saved reach) (families-emit homes saved reach) frame choices staged place n (names n.operands) (all-self n.operands)
+pub node-emits : (homes saved : ℕ) (reach : Reach) (frame : ℕ) (choices : List Choice) (staged : List Bool) (place : ℕ) (n : Node) → Emits reach (names n.operands) 1 (allowed X86_64 homes saved choices n.op) (node_items homes saved reach n frame choices staged place)
+node-emits homes saved reach frame choices staged place n = emission.node-emits X86_64 homes saved x86_holes x86_stores (Names reach) (x86_families homes saved reach) (families-emit homes saved reach) frame choices staged place n (names n.operands) (all-self n.operands)
 
 -- ---- ranges
 abbrev Fit : ℕ → ℕ → Reach → ℕ → List Item → Type 0

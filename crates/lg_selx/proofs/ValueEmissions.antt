@@ -18,7 +18,6 @@ use Rattle.lg_selx.proofs.SavedEmissions.{saved}
 use Rattle.lg_selx_values.proofs.WithinLemmas.{portable}
 use Rattle.lg_selx_values.specs.GoodItems.{Fine}
 use Rattle.lg_selx_values.specs.Items.{ones}
-use Rattle.lg_selx_values.specs.declared.items.Item.{Item}
 use Rattle.lg_selx_values.proofs.RegisterLemmas.{register-portable}
 use Rattle.lg_selx_values.proofs.RowLemmas.{HoldsOfRows, Holds, rax-fine, binary-made, binary-number-made, unary-made, retval-made, wide-made, wide-number-made}
 use Rattle.lg_selx_values.specs.UnaryCode.{unary_code, retval_code}

@@ -32,8 +32,8 @@ use lg_temp::{Choices, Staged};
 /// node, and reaches the place of a label that is bound, and else every place that is fewer bytes away than the buffer's size. The code that leads back to
 /// a label that is bound has the shortest form that reaches it, and code that leads ahead to one that is not the near form. Once the fixes of the buffer
 /// are patched, the code is whole instructions, and carries the node where the registers of `live_after` are live behind it: no step of it but one of a
-/// host function changes a register that is outside of the conventions. It has one store for each choice that saves a register, and one more at stores,
-/// `pushargr` and `pushargi`; that of a `prolog` may have more.
+/// host function changes a register that is outside of the conventions. It has one store for each choice that saves a register, one more at stores,
+/// `pushargr` and `pushargi`, and at a `prolog` at most one more than `homes` and `saved` together.
 #[must_use]
 pub fn select(
     node: &Node,
@@ -65,7 +65,7 @@ pub fn select(
     ensures shortest { IsTrue result → IsShortWhenFinished Target.X86_64 node.now buf.old buf.new }
     ensures ahead { IsTrue result → IsAheadWhenFinished Target.X86_64 node.now buf.old buf.new }
     ensures instructions { IsTrue result → AreInstructionsWhenFinished Target.X86_64 buf.old buf.new }
-    ensures sparing { IsTrue result → IsSparingWhenFinished Target.X86_64 node.now choices.now buf.old buf.new }
+    ensures sparing { IsTrue result → IsSparingWhenFinished Target.X86_64 node.now homes saved choices.now buf.old buf.new }
     ensures carries { IsTrue result → IsCarriedWhenFinished Target.X86_64 node.now frame homes saved (has live_after) staged.arguments buf.old buf.new }
 {
     let operands = node.operands.as_slice();

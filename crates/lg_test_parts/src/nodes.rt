@@ -42,10 +42,8 @@ const FUNCTION: &[u8] = b"prolog\nallocai 12 $l\nmovi %r0 there\nthere: epilog";
 // The shape of a unit, made anew once it is checked.
 fn shape_again(alloc: Global, unit: &Unit) -> Result<Shape, Stop> {
     let shape = check(alloc, unit)?;
-    match reshape(alloc, &unit.nodes, &shape) {
-        Ok(again) => Ok(again),
-        Err(OutOfMemory) => Err(Stop::OutOfMemory),
-    }
+    let again = reshape(alloc, &unit.nodes, &shape)?;
+    Ok(again)
 }
 
 // Whether a shape is that of the function.

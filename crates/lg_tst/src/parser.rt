@@ -152,9 +152,7 @@ impl<'a> Parser<'a> {
             nodes,
             names: _,
         } = self;
-        match part.into_image() {
-            Ok(image) => Ok(Unit { nodes, image }),
-            Err(OutOfMemory) => Err(Stop::OutOfMemory),
-        }
+        let image = part.into_image()?;
+        Ok(Unit { nodes, image })
     }
 }

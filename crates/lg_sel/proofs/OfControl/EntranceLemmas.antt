@@ -6,7 +6,6 @@ use Rattle.lg_carry.specs.Carries.{Sinks}
 use Rattle.lg_base.specs.Conventions.{argument_registers, portable_register, frame_register, stack_register, link_register}
 use Rattle.lg_base.specs.Layout.{frame_pointer, return_word, saved_word, home_word}
 use Rattle.lg_base.specs.Runs.{Running}
-use Rattle.lg_base.specs.declared.target.Target.{Target}
 use Rattle.lg_carry.specs.Frames.{IsLinked}
 use Rattle.lg_carry.specs.Processors.{Processor}
 use Rattle.lg_carry.specs.Registers.{HasWord}

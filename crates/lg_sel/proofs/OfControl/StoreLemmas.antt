@@ -23,7 +23,7 @@ use Rattle.lg_carry.proofs.SpillLemmas.{stored-there}
 use Rattle.lg_carry.proofs.WordLemmas.{word-kept}
 use Rattle.lg_sel.specs.Holes.{Holes, words_in, ones}
 use Rattle.lg_sel.proofs.ListLemmas.{words_append, ones-append, words-ones}
-use Rattle.lg_sel.specs.Control.Stores.{first_registers, home_registers, stores_below}
+use Rattle.lg_sel.specs.Control.Stores.{kept_registers, first_registers, home_registers, stores_below}
 use Rattle.lg_sel.proofs.OfControl.ChainLemmas.{RunsAt, next-at, Chain, chain-more}
 
 -- ---- how many there are
@@ -31,6 +31,17 @@ use Rattle.lg_sel.proofs.OfControl.ChainLemmas.{RunsAt, next-at, Chain, chain-mo
 pub first-few : (target : Target) (link saved : ℕ) → length (first_registers target link saved) ≤ 5
 first-few target link saved =
     let e = length-take saved (portable_register target 3 ∷ portable_register target 4 ∷ portable_register target 5 ∷ []) in omega (arith, e)
+
+-- and no more than are wanted
+pub kept-most : (target : Target) (saved : ℕ) → length (kept_registers target saved) ≤ saved
+kept-most target saved =
+    let e = length-take saved (portable_register target 3 ∷ portable_register target 4 ∷ portable_register target 5 ∷ []) in omega (arith, e)
+
+pub first-most : (target : Target) (link saved : ℕ) → length (first_registers target link saved) ≤ 2 + saved
+first-most target link saved = let e = kept-most target saved in omega (arith, e)
+
+pub homes-most : (target : Target) (homes : ℕ) → length (home_registers target homes) ≤ homes
+homes-most target homes = let e = length-take homes (argument_registers target) in omega (arith, e)
 
 pub homes-few : (target : Target) (homes : ℕ) → length (home_registers target homes) ≤ 8
 homes-few target homes = let eight = registers-few target in let e = length-take homes (argument_registers target) in omega (arith, eight, e)

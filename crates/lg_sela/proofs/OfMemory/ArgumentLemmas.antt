@@ -3,7 +3,6 @@ use Rattle.lg_carry.specs.Memory.Accesses.{LiesAbove}
 use Rattle.std.proofs.Common.{◌≡◌, ℕ, ◌+◌, ◌-◌, ◌*◌, ◌<◌, ◌≤◌, ◌^◌, Bool, true, false, List, [], ◌∷◌, refl, ap, ◌∙◌, subst, arith, length}
 use Rattle.std.specs.Prelude.{◌==◌, nat_lt, pos, negsuc, if◌then◌else◌}
 use Rattle.lg_base.specs.Layout.{frame_pointer, home_word, stack_argument}
-use Rattle.lg_base.specs.Fields.{word_of}
 use Rattle.lg_base.specs.Words.{add_words, sub_words, signed_view}
 use Rattle.lg_base.specs.declared.target.Target.TheVariants.{Aarch64}
 use Rattle.lg_op.specs.declared.op.ValueType.{ValueType}

@@ -1,7 +1,7 @@
 // Functions that begin and return, and places at a multiple.
 
 ghost use Rattle.std.specs.Prelude.{◌≡◌, ◌+◌, ◌-◌, ◌/◌, ◌%◌, ◌<◌, ◌≤◌, true, false, [], ◌∷◌, ◌++◌};
-ghost use Rattle.lg_base.specs.Conventions.{argument_registers, portable_register};
+ghost use Rattle.lg_base.specs.Conventions.{argument_registers};
 ghost use Rattle.lg_base.specs.declared.target.Target.TheVariants.{Aarch64};
 ghost use Rattle.lg_sela_values.specs.Processor.A64Rows.{stack_pointer, frame_pointer, link};
 ghost use Rattle.lg_op.specs.declared.form.Form.TheVariants as form;
@@ -10,6 +10,7 @@ ghost use Rattle.lg_sela.specs.Control.Prologs.{first_registers, home_registers,
 ghost use Rattle.lg_sela.specs.Control.Returns.{kept_loads, restores, link_load, near_return, far_return, return_code};
 ghost use Rattle.lg_sela_values.specs.Items.{words_in, ones};
 ghost use Rattle.lg_op.specs.Forms.{admit, plain_forms};
+ghost use Rattle.lg_sel.specs.Control.Stores.{kept_registers};
 
 use lg_a64::{BranchRegOp, ImmOp, Instr, ScaledOp, UnscaledOp};
 use lg_op::{Operand, PlainOp};
@@ -55,7 +56,7 @@ fn link_stores(first: u32) -> [Instr; 2]
 fn saves(first: u32) -> [Instr; 3]
     requires large { 104 ≤ first }
     requires small { first ≤ 2048 }
-    ensures { result ≡ stores_below first (portable_register Aarch64 3 ∷ portable_register Aarch64 4 ∷ portable_register Aarch64 5 ∷ []) 2 }
+    ensures { result ≡ stores_below first (kept_registers Aarch64 3) 2 }
 {
     [
         store(first, V0, 2),
@@ -118,26 +119,17 @@ fn put_fall(size: u32, items: &mut Items<Item>)
     }
 }
 
-// Appends the stores of the link, FP and so many of V0, V1 and V2.
-fn put_saves(first: u32, saved: u32, items: &mut Items<Item>)
+// Appends the stores of a `prolog` with so many homes, which saves so many of V0 to V2.
+#[tactic(auto, using(lg_sela_values::proofs::ItemLemmas::words_append))]
+fn put_stores(first: u32, homes: u32, saved: u32, items: &mut Items<Item>)
     requires room { words_in items.old ≤ 50 }
     requires large { 104 ≤ first }
     requires small { first ≤ 2048 }
-    ensures stored { items.new ≡ items.old ++ ones (stores_below first (first_registers saved) 0) }
-    ensures few { words_in items.new ≤ words_in items.old + 5 }
+    ensures stored { items.new ≡ items.old ++ ones (stores_below first (first_registers saved) 0 ++ stores_below first (home_registers homes) 5) }
+    ensures few { words_in items.new ≤ words_in items.old + 13 }
 {
     items.all(&link_stores(first));
     items.all(&saves(first)[..saved.min(3) as usize]);
-}
-
-// Appends the stores of so many homes.
-fn put_homes(first: u32, homes: u32, items: &mut Items<Item>)
-    requires room { words_in items.old ≤ 50 }
-    requires large { 104 ≤ first }
-    requires small { first ≤ 2048 }
-    ensures stored { items.new ≡ items.old ++ ones (stores_below first (home_registers homes) 5) }
-    ensures few { words_in items.new ≤ words_in items.old + 8 }
-{
     items.all(&home_stores(first)[..homes.min(8) as usize]);
 }
 
@@ -151,8 +143,7 @@ fn put_words(first: u32, homes: u32, saved: u32, items: &mut Items<Item>)
     ensures few { words_in items.new ≤ 15 }
 {
     items.one(short_fall(first));
-    put_saves(first, saved, items);
-    put_homes(first, homes, items);
+    put_stores(first, homes, saved, items);
     items.one(imm(
         ImmOp::Addi,
         FRAME_POINTER,

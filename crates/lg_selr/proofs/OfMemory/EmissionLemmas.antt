@@ -21,10 +21,10 @@ use Rattle.lg_op.specs.declared.node.Node.{Node}
 use Rattle.lg_op.specs.declared.op.Addressing.{Addressing}
 use Rattle.lg_op.specs.Operators.{width, store_width}
 use Rattle.lg_carry.specs.Memory.Accesses.{Address, Base, At, Sum, Index, address_of}
-use Rattle.lg_selr.proofs.OfMemory.AccessFitLemmas.{narrow, narrow-store}
+use Rattle.lg_selr.proofs.OfMemory.AccessFitLemmas.{narrow}
 use Rattle.lg_selr_values.specs.declared.items.Item.{Item}
 use Rattle.lg_selr_values.specs.Items.{words_in, ones}
-use Rattle.lg_selr.specs.Memory.Accesses.{link, register, at_link, near, indexed, is_low, absolute, is_whole, place_of, load_row, store_row, high_row, lower_bytes, higher_bytes, fork, slow_load, store_bytes, store_skip, slow_store, load_at, store_at, load_code, store_code}
+use Rattle.lg_selr.specs.Memory.Accesses.{link, register, at_link, near, indexed, is_low, absolute, is_whole, place_of, load_row, store_row, lower_bytes, higher_bytes, fork, slow_load, store_bytes, store_skip, slow_store, load_at, store_at, load_code, store_code}
 use Rattle.lg_selr_values.proofs.ItemLemmas.{words_append, words-ones}
 use Rattle.lg_selr.specs.Memory.PushCode.{into}
 use Rattle.lg_selr_values.proofs.EmissionLemmas.{words_more, number_few}

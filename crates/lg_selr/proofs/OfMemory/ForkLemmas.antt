@@ -1,7 +1,7 @@
 -- A test of the low bits of a base, and two ways behind it.
 use Rattle.lg_carry.proofs.BlockLemmas.{nothing-off}
-use Rattle.std.proofs.Common.{◌≡◌, ◌≢◌, ℕ, ◌+◌, ◌-◌, ◌*◌, ◌%◌, ◌^◌, ◌<◌, ◌≤◌, Bool, true, false, List, [], ◌∷◌, ◌++◌, Option, refl, sym, ap, ◌∙◌, arith, subst, length, length-append, append-nil, append_assoc, bit_and}
-use Rattle.std.specs.Prelude.{ℤ, pos, ◌==◌, ◌&&◌, if◌then◌else◌}
+use Rattle.std.proofs.Common.{◌≡◌, ◌≢◌, ℕ, ◌+◌, ◌-◌, ◌*◌, ◌%◌, ◌≤◌, Bool, true, false, List, [], ◌∷◌, ◌++◌, Option, refl, sym, ap, ◌∙◌, arith, subst, length, length-append, append-nil, append_assoc, bit_and}
+use Rattle.std.specs.Prelude.{pos, ◌==◌, ◌&&◌, if◌then◌else◌}
 use Rattle.std.specs.List.{list_all}
 use Rattle.std.proofs.lemmas.Bool.{and_parts}
 use Rattle.lg_base.specs.Fields.{word_of}
@@ -12,17 +12,16 @@ use Rattle.lg_base.specs.declared.fault.FaultKind.TheVariants.{Align}
 use Rattle.lg_cpu.specs.HostSteps.{put}
 use Rattle.lg_cpu.specs.RvOperators.{is_taken}
 use Rattle.lg_cpu.specs.RvStep.{read, goes, branch_to, act}
-use Rattle.lg_cpu.specs.States.{CpuState}
-use Rattle.lg_cpu.specs.Steps.{Run, Effect, after, arrived, faults, status_of}
+use Rattle.lg_cpu.specs.Steps.{after, arrived, faults, status_of}
 use Rattle.lg_carry.specs.Blocks.{spellings, IsBlock}
 use Rattle.lg_carry.specs.Processors.{Seen}
-use Rattle.lg_carry.specs.Rows.{Rows, AreRows}
+use Rattle.lg_carry.specs.Rows.{AreRows}
 use Rattle.lg_carry.specs.Spills.{Does}
 use Rattle.lg_selr_values.specs.Processor.Computations.{all_compute, computed, computes}
 use Rattle.lg_selr_values.specs.Processor.RvRows.{rv_rows, rv_does, is_straight}
-use Rattle.lg_selr_values.proofs.OfProcessor.ComputationLemmas.{pointwise, put-same, put-other, read-other, computed-append, all-compute-append, computes-straight, spellings-long}
+use Rattle.lg_selr_values.proofs.OfProcessor.ComputationLemmas.{pointwise, put-same, read-other, computed-append, all-compute-append, computes-straight, spellings-long}
 use Rattle.lg_selr_values.proofs.OfProcessor.RowLemmas.{went}
-use Rattle.lg_selr_values.proofs.OfProcessor.SlotLemmas.{pc-next, goes-on}
+use Rattle.lg_selr_values.proofs.OfProcessor.SlotLemmas.{pc-next}
 use Rattle.lg_rv.specs.Spelling.{spelling, IsInstr}
 use Rattle.lg_rv.specs.declared.instruction.BranchOp.{BranchOp}
 use Rattle.lg_rv.specs.declared.instruction.BranchOp.TheVariants.{Beq}

@@ -1,6 +1,6 @@
 -- Loads.
 use Rattle.lg_sel.specs.RvTouched.{touched, load_width}
-use Rattle.std.proofs.Common.{◌≡◌, ◌≢◌, ℕ, zero, suc, ◌+◌, ◌-◌, ◌*◌, ◌%◌, ◌^◌, ◌<◌, ◌≤◌, Bool, true, false, List, [], ◌∷◌, ◌++◌, Option, Some, refl, sym, ap, ◌∙◌, arith, subst, length, length-append, append_assoc, bit_and}
+use Rattle.std.proofs.Common.{◌≡◌, ◌≢◌, ℕ, zero, suc, ◌+◌, ◌-◌, ◌*◌, ◌%◌, ◌^◌, ◌<◌, ◌≤◌, Bool, true, false, List, [], ◌∷◌, ◌++◌, Option, Some, refl, sym, ap, ◌∙◌, arith, subst, length, length-append, bit_and}
 use Rattle.std.specs.Prelude.{ℤ, pos, ◌==◌, ◌||◌, ◌&&◌, if◌then◌else◌}
 use Rattle.std.specs.List.{list_all}
 use Rattle.std.proofs.lemmas.Bool.{and_parts, or_parts}
@@ -29,7 +29,7 @@ use Rattle.lg_temp.specs.declared.choice.Choice.{Choice}
 use Rattle.lg_carry.specs.Blocks.{spellings, IsBlock}
 use Rattle.lg_carry.specs.Rows.{AreRows}
 use Rattle.lg_carry.specs.Processors.{Seen, IsOff, is_below}
-use Rattle.lg_carry.specs.Spills.{Does, in_slots, with_register, spilled}
+use Rattle.lg_carry.specs.Spills.{Does, with_register, spilled}
 use Rattle.lg_selr_values.specs.Processor.Computations.{all_compute, computed_by, computed}
 use Rattle.lg_selr_values.specs.Processor.RvComputers.{rv_scratch, rv_computer}
 use Rattle.lg_selr_values.specs.Processor.RvRows.{rv_rows, rv_seen, is_straight}

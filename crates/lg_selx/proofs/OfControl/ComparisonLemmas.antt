@@ -21,7 +21,7 @@ use Rattle.lg_x86.specs.declared.instruction.RmRegOp.TheVariants as row
 use Rattle.lg_cpu.specs.HostSteps.{put}
 use Rattle.lg_cpu.specs.X86Operators.{alu_flags, bit_flags}
 use Rattle.lg_cpu.specs.X86Operators as x86
-use Rattle.lg_cpu.specs.X86Step.{Scene, made, combined}
+use Rattle.lg_cpu.specs.X86Step.{Scene, combined}
 use Rattle.lg_temp.specs.Abis.{register_of}
 use Rattle.lg_selx_values.specs.Processor.MakingNodes.{scene}
 use Rattle.lg_selx_values.specs.Processor.Makings.{makes}

@@ -1,6 +1,6 @@
 -- FP compared: it lies on one side of a number of more than 32 bits, and has none but the lowest 30 bits.
 use Rattle.std.proofs.Common.{◌≡◌, ℕ, ◌+◌, ◌-◌, ◌*◌, ◌/◌, ◌%◌, ◌^◌, ◌<◌, Bool, true, false, refl, sym, ap, ◌∙◌, arith}
-use Rattle.std.specs.Prelude.{ℤ, pos, negsuc, ◌==◌, not, nat_lt, bit_and, if◌then◌else◌}
+use Rattle.std.specs.Prelude.{pos, negsuc, ◌==◌, not, nat_lt, bit_and, if◌then◌else◌}
 use Rattle.std.proofs.lemmas.Nat.{and_block}
 use Rattle.lg_base.specs.Fields.{word_of}
 use Rattle.lg_base.specs.Words.{is_less, is_less_signed, is_half}

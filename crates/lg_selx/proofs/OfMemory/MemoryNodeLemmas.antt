@@ -6,7 +6,6 @@ use Rattle.lg_selx_values.specs.Processor.X86Rows.{x86_rows}
 use Rattle.lg_selx_values.proofs.OfProcessor.IsaLemmas.{is-isa}
 use Rattle.lg_meaning.specs.Steps.{operand_at, stored_operand}
 use Rattle.lg_op.specs.Forms.{admit, forms_of, store_forms}
-use Rattle.lg_op.specs.declared.node.Node.{Node}
 use Rattle.lg_x86.specs.Spelling.{IsInstr}
 use Rattle.lg_carry.specs.Memory.Accesses.{address_of}
 use Rattle.lg_carry.specs.Memory.Operands.{named}

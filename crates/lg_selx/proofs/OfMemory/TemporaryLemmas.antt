@@ -1,12 +1,11 @@
 -- The temporary of a store: a register of the conventions, and none of those that the store reads.
-use Rattle.std.proofs.Common.{◌≡◌, ◌≢◌, ℕ, ◌<◌, ◌⊎◌, inl, inr, Bool, true, false, List, [], ◌∷◌, refl, sym, ap, ◌∙◌, arith, subst, length}
+use Rattle.std.proofs.Common.{◌≡◌, ◌≢◌, ℕ, ◌<◌, Bool, true, false, List, [], ◌∷◌, refl, sym, ap, ◌∙◌, arith, subst, length}
 use Rattle.std.specs.Prelude.{◌==◌, ◌||◌, ◌&&◌, ◌≤◌, slice_index_or}
 use Rattle.std.specs.List.{list_any}
 use Rattle.std.proofs.lemmas.Bool.{or_left, or_parts}
 use Rattle.lg_base.specs.declared.target.Target.TheVariants.{X86_64}
 use Rattle.lg_live.specs.Registers.{is_same}
 use Rattle.lg_live.specs.Uses.{is_read, is_written, is_for, is_register, names}
-use Rattle.lg_live.specs.declared.uses.Access.{Access}
 use Rattle.lg_live.specs.declared.uses.Access.TheVariants as access
 use Rattle.lg_meaning.specs.Steps.{operand_at, stored_operand}
 use Rattle.lg_op.specs.Forms.{admit, forms_of, store_forms}

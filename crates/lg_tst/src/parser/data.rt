@@ -14,7 +14,7 @@ use crate::data_part::MOST_DATA;
 use crate::operand::misfit;
 use crate::statement::{ItemSize, Section, is_number};
 use byteorder::{ByteOrder, LittleEndian};
-use lg_base::{OutOfMemory, RefusalKind, Stop};
+use lg_base::{RefusalKind, Stop};
 use lg_lex::{Token, TokenKind, string_bytes};
 
 // Whether a number is a power of two from 1 to 4,096.
@@ -57,13 +57,9 @@ impl Parser<'_> {
         if size.value > MOST_DATA {
             return refuse(RefusalKind::BadOperand, size.line);
         }
-        match self.part.open(size.value as u32) {
-            Ok(()) => {
-                self.section = Section::Data;
-                Ok(())
-            }
-            Err(OutOfMemory) => Err(Stop::OutOfMemory),
-        }
+        self.part.open(size.value as u32)?;
+        self.section = Section::Data;
+        Ok(())
     }
 
     // `.data N`, once.
@@ -82,10 +78,10 @@ impl Parser<'_> {
         ensures gives { Gives result self.new (stored line (length bytes.now) bytes.now self.old) }
         ensures source { self.new.source ≡ self.old.source }
     {
-        match self.part.append(bytes) {
-            Ok(true) => Ok(()),
-            Ok(false) => refuse(RefusalKind::DataFull, line),
-            Err(OutOfMemory) => Err(Stop::OutOfMemory),
+        if self.part.append(bytes)? {
+            Ok(())
+        } else {
+            refuse(RefusalKind::DataFull, line)
         }
     }
 
@@ -93,10 +89,10 @@ impl Parser<'_> {
     fn store_zeros(&mut self, count: u64, line: u32) -> Result<(), Stop>
         ensures { Gives result self.new (stored line count (zeros count) self.old) }
     {
-        match self.part.skip(count) {
-            Ok(true) => Ok(()),
-            Ok(false) => refuse(RefusalKind::DataFull, line),
-            Err(OutOfMemory) => Err(Stop::OutOfMemory),
+        if self.part.skip(count)? {
+            Ok(())
+        } else {
+            refuse(RefusalKind::DataFull, line)
         }
     }
 

@@ -15,7 +15,7 @@ use crate::operand::{
     admitted, argument_named, host_operand, local_named, local_size, register_operand, stays_apart,
 };
 use crate::words::behind_mark;
-use lg_base::{HostName, OutOfMemory, RefusalKind, Stop};
+use lg_base::{HostName, RefusalKind, Stop};
 use lg_lex::{Token, TokenKind};
 use lg_op::{Form, Node, Op, Operand, Operands, PlainOp};
 
@@ -42,10 +42,8 @@ impl Parser<'_> {
         ensures form { IfOk result (λ x. admits form x ≡ true) }
         ensures nodes { length self.new.list.nodes ≡ length self.old.list.nodes }
     {
-        match self.nodes.label(word) {
-            Ok(label) => at_line(admitted(form, Operand::Label(label)), line),
-            Err(OutOfMemory) => Err(Stop::OutOfMemory),
-        }
+        let label = self.nodes.label(word)?;
+        at_line(admitted(form, Operand::Label(label)), line)
     }
 
     // A name that `arg` makes.
@@ -56,10 +54,9 @@ impl Parser<'_> {
         ensures form { IfOk result (λ x. admits Form.NewArgument x ≡ true) }
         ensures nodes { length self.new.list.nodes ≡ length self.old.list.nodes }
     {
-        match self.names.add_argument(word) {
-            Ok(Some(number)) => Ok(Operand::Slot(number)),
-            Ok(None) => refuse(RefusalKind::LabelTwice, line),
-            Err(OutOfMemory) => Err(Stop::OutOfMemory),
+        match self.names.add_argument(word)? {
+            Some(number) => Ok(Operand::Slot(number)),
+            None => refuse(RefusalKind::LabelTwice, line),
         }
     }
 
@@ -71,10 +68,9 @@ impl Parser<'_> {
         ensures form { IfOk result (λ x. admits Form.NewLocal x ≡ true) }
         ensures nodes { length self.new.list.nodes ≡ length self.old.list.nodes }
     {
-        match self.names.add_local(word, local_size(done)) {
-            Ok(Some(number)) => Ok(Operand::Slot(number)),
-            Ok(None) => refuse(RefusalKind::LabelTwice, line),
-            Err(OutOfMemory) => Err(Stop::OutOfMemory),
+        match self.names.add_local(word, local_size(done))? {
+            Some(number) => Ok(Operand::Slot(number)),
+            None => refuse(RefusalKind::LabelTwice, line),
         }
     }
 
@@ -163,10 +159,8 @@ impl Parser<'_> {
         requires form { InForm node }
         ensures { Gives result self.new (Ok record self.old { list = with_node self.old.list node }) }
     {
-        match self.nodes.push(node) {
-            Ok(()) => Ok(()),
-            Err(OutOfMemory) => Err(Stop::OutOfMemory),
-        }
+        self.nodes.push(node)?;
+        Ok(())
     }
 
     // All operands of an operation, behind those that have tokens.

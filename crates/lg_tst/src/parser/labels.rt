@@ -8,7 +8,7 @@ ghost use Rattle.lg_tst.specs.Units.{place_in, bound_at, or_twice, label, name_w
 use super::{Parser, refuse};
 use crate::operand::misfit;
 use crate::statement::Section;
-use lg_base::{OutOfMemory, RefusalKind, Stop};
+use lg_base::{RefusalKind, Stop};
 use lg_lex::TokenKind;
 use lg_node::Place;
 use lg_op::Label;
@@ -44,10 +44,8 @@ impl Parser<'_> {
         ensures { Gives result self.new (label self.old word.now line) }
     {
         let place = self.place();
-        match self.nodes.label(word) {
-            Ok(label) => self.bind(label, place, line),
-            Err(OutOfMemory) => Err(Stop::OutOfMemory),
-        }
+        let label = self.nodes.label(word)?;
+        self.bind(label, place, line)
     }
 
     // `name x`.

@@ -10,17 +10,17 @@ returns-then-not-fits-clause-refused c r e =
     let long : args_len texts ≤ most_args → ⊥ = λ h. let f = c.if-not-fits.ensures.1 h in cc in
     (cc, omega (arith, length-args_of texts))
 
-pub returns-in-Ok-clause-size : goal.returns-in-Ok-clause-size
-returns-in-Ok-clause-size c =
+pub returns-clause-size : goal.returns-clause-size
+returns-clause-size c =
     let texts = texts_of c.args.words.now.items in
-    omega (arith, ap length c.in-Ok.ensures, length-args_of texts, c.if-not-fits.ensures.0 refl)
+    omega (arith, ap length c.in_ok-image.ensures, length-args_of texts, c.if-not-fits.ensures.0 refl)
 
-pub returns-in-Ok-clause-long : goal.returns-in-Ok-clause-long
-returns-in-Ok-clause-long c long =
+pub returns-clause-long : goal.returns-clause-long
+returns-clause-long c long =
     let texts = texts_of c.args.words.now.items in
     absurd (omega (arith, length-args_of texts, c.if-not-fits.ensures.0 refl))
 
-pub returns-in-Err-clause-long : goal.returns-in-Err-clause-long
-returns-in-Err-clause-long c long =
+pub returns-in_err-image-clause-long : goal.returns-in_err-image-clause-long
+returns-in_err-image-clause-long c long =
     let texts = texts_of c.args.words.now.items in
     absurd (omega (arith, length-args_of texts, c.if-not-fits.ensures.0 refl))

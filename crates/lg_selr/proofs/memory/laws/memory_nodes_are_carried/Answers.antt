@@ -1,4 +1,3 @@
-use Rattle.lg_selr.proofs.OfMemory.HalfLemmas.{halves-store}
 use Rattle.lg_selr.proofs.OfMemory.MemoryNodeLemmas.{memory-is-carried}
 use Rattle.lg_selr.proofs.memory.laws.memory_nodes_are_carried.Goals as goal
 
