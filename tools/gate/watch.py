@@ -40,7 +40,8 @@ def kind(pid, words):
         return "edits"
     if "--test" in words or "--crate-checked" in words:
         return "built"
-    return "proof" if words[1] in ("build", "check") else "built"
+    # (a process that has not come to be the checker yet is `sh` with its words)
+    return "proof" if "build" in words or "check" in words else "built"
 
 
 def memory(pid):
