@@ -1,5 +1,5 @@
 -- How many stores the code of a node has, on every target.
-use Rattle.std.specs.Prelude.{◌≡◌, ℕ, ◌+◌, ◌≤◌, Bool, true, false, List, count_by}
+use Rattle.std.specs.Prelude.{◌≡◌, ℕ, ◌+◌, ◌≤◌, Bool, true, false, List, length, count_by}
 use Rattle.std.specs.List.{All}
 use Rattle.lg_a64.specs.Spelling as a64
 use Rattle.lg_a64.specs.declared.instruction.Instr.{Instr as A64Instr}
@@ -9,6 +9,7 @@ use Rattle.lg_a64.specs.declared.instruction.UnscaledOp.TheVariants.{Stur}
 use Rattle.lg_base.specs.declared.target.Target.{Target}
 use Rattle.lg_base.specs.declared.target.Target.TheVariants.{X86_64, Aarch64, Riscv64}
 use Rattle.lg_carry.specs.Blocks.{spellings}
+use Rattle.lg_sel.specs.Control.Stores.{home_registers}
 use Rattle.lg_op.specs.declared.op.ControlOp.TheVariants as control
 use Rattle.lg_op.specs.declared.op.Op.{Op}
 use Rattle.lg_op.specs.declared.op.Op.TheVariants as op
@@ -60,11 +61,11 @@ abbrev pub frame_stores : Target → ℕ
 frame_stores X86_64 = 1
 frame_stores target = 2
 
--- the stores that a node has beside those that save its temporaries: a `prolog` stores so many homes of arguments, and saves so many of V0, V1 and V2
+-- the stores that a node has beside those that save its temporaries: a `prolog` stores these homes of register arguments, and saves so many of V0, V1 and V2
 abbrev pub own_stores : Target → ℕ → ℕ → Op → ℕ
 own_stores target homes saved (op.Store t at) = rows_stored target t
 own_stores target homes saved (op.Control control.Pusharg last) = 1
-own_stores target homes saved (op.Plain plain.Prolog) = frame_stores target + homes + saved
+own_stores target homes saved (op.Plain plain.Prolog) = frame_stores target + length (home_registers target homes) + saved
 own_stores target homes saved o = 0
 
 -- ---- bytes that store seldom

@@ -39,7 +39,7 @@ use Rattle.lg_sela_values.specs.BinaryCode.{is_small}
 use Rattle.lg_sela.specs.Control.Branches.{comparison, is_held, number_comparison, taken, turned}
 use Rattle.lg_sela.specs.Control.ControlItems.{second_register, word_items, second_items, compared_items, comparing, leads_items, branch_if_items, branch_items, sum_items, jump_items, call_items, result_items, ret_items, register_leap_items, leap_items, align_items, control_items}
 use Rattle.lg_sela.specs.Control.Prologs.{prolog_code, framed_code, is_near, first_registers, home_registers, stores_below, store_word}
-use Rattle.lg_sel.proofs.OfControl.StoreLemmas.{first-most, homes-most, stores-long}
+use Rattle.lg_sel.proofs.OfControl.StoreLemmas.{first-most, stores-long}
 use Rattle.lg_sela.specs.Control.RegisterLeaps.{register_leap_code}
 use Rattle.lg_sela.specs.Control.Returns.{result, restores, link_load, near_return, far_return, leaving_code, return_code}
 use Rattle.lg_sela.specs.Control.SumBranches.{sum_instruction, sum_taken}
@@ -79,10 +79,10 @@ idle-none zero = refl
 idle-none (suc k) = idle-none k
 
 -- a `prolog` stores the link, FP, and so many others
-prolog-few : (saved frame homes : ℕ) → stores.stores_among a64_stores (prolog_code saved frame homes) ≤ 2 + homes + saved
+prolog-few : (saved frame homes : ℕ) → stores.stores_among a64_stores (prolog_code saved frame homes) ≤ 2 + length (home_registers homes) + saved
 prolog-few saved frame homes = by (is_near frame) (nat_lt (frame - 112) 4096)
   where
-    framed : (first : ℕ) (rest : List Instr) → NoneStores rest → stores.stores_among a64_stores (framed_code saved first homes rest) ≤ 2 + homes + saved
+    framed : (first : ℕ) (rest : List Instr) → NoneStores rest → stores.stores_among a64_stores (framed_code saved first homes rest) ≤ 2 + length (home_registers homes) + saved
     framed first rest free =
         let front : List Instr = stores_below first (first_registers saved) 0 in
         let end : List Instr = instr.Imm Addi frame_pointer stack_pointer (first - 16) false ∷ rest in
@@ -92,12 +92,11 @@ prolog-few saved frame homes = by (is_near frame) (nat_lt (frame - 112) 4096)
         let most = stores.among-length a64_stores front in
         let long = stores-long (store_word first) (first_registers saved) 0 in
         let h : stores.stores_among a64_stores back ≤ length (home_registers homes) = stores.among-stores a64_stores (store_word first) (home_registers homes) 5 end free in
-        let few = first-most Aarch64 link saved in
-        let places = homes-most Aarch64 homes in omega (arith, both, most, long, h, few, places)
+        let few = first-most Aarch64 link saved in omega (arith, both, most, long, h, few)
 
     by : (b b' : Bool) → stores.stores_among a64_stores (if b then framed_code saved frame homes [] else framed_code saved 112 homes
         (if b' then instr.Imm Subi stack_pointer stack_pointer (frame - 112) false ∷ []
-        else instr.Imm Subi stack_pointer stack_pointer ((frame - 112) / 4096 % 4096) true ∷ instr.Imm Subi stack_pointer stack_pointer ((frame - 112) % 4096) false ∷ [])) ≤ 2 + homes + saved
+        else instr.Imm Subi stack_pointer stack_pointer ((frame - 112) / 4096 % 4096) true ∷ instr.Imm Subi stack_pointer stack_pointer ((frame - 112) % 4096) false ∷ [])) ≤ 2 + length (home_registers homes) + saved
     by true b' = framed frame [] refl
     by false true = framed 112 _ refl
     by false false = framed 112 _ refl
@@ -207,7 +206,7 @@ module _ (reach : Reach) (is : ℕ → Bool) where
   controls-emit (op.Branch o last) xs frame homes saved at h = branched o xs h
   controls-emit (op.BranchSum o last) xs frame homes saved at h = summed o xs h
   controls-emit (op.Control o last) xs frame homes saved at h = more reach is 1 1 0 (own_stores Aarch64 homes saved (op.Control o last)) (control_items reach (op.Control o last) xs frame homes saved at) (omega arith) (omega arith) (leaps frame saved o last xs h)
-  controls-emit (op.Plain plain_op.Prolog) xs frame homes saved at h = instructions reach is 1 (2 + homes + saved) (prolog_code saved frame homes) (prolog-few saved frame homes)
+  controls-emit (op.Plain plain_op.Prolog) xs frame homes saved at h = instructions reach is 1 (2 + length (home_registers homes) + saved) (prolog_code saved frame homes) (prolog-few saved frame homes)
   controls-emit (op.Plain plain_op.Epilog) xs frame homes saved at h = plain reach is 1 (return_code saved frame) (return-none saved frame)
   controls-emit (op.Plain plain_op.Ret) xs frame homes saved at h = plain reach is 1 (return_code saved frame) (return-none saved frame)
   controls-emit (op.Plain plain_op.Align) xs frame homes saved at h = aligned at xs

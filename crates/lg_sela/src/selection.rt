@@ -1,13 +1,11 @@
 // The code of a node into a buffer.
 
-ghost use Rattle.std.specs.Prelude.{◌≡◌, ◌+◌, ◌%◌, ◌<◌, ◌≤◌, ◌++◌, true, false, drop, length, IsTrue};
-ghost use Rattle.std.specs.List.{All};
-ghost use Rattle.lg_node.specs.Functions.{is_prolog};
+ghost use Rattle.std.specs.Prelude.{◌≡◌, ◌+◌, ◌%◌, ◌<◌, ◌≤◌, true, false, length, IsTrue};
 ghost use Rattle.lg_carry.specs.Nodes.Operands.{NameBelow};
 ghost use Rattle.lg_op.specs.Nodes.{InForm};
 ghost use Rattle.lg_live.specs.RegSets.{has};
-ghost use Rattle.lg_sel.specs.Selected.{IsFrame, AreFirst, is_pusharg, TakesLabelsWell, IsAligned, IsFixOf};
-ghost use Rattle.lg_sel.specs.Promises.{IsCarriedWhenFinished, IsShortWhenFinished, IsAheadWhenFinished, AreInstructionsWhenFinished, IsSparingWhenFinished};
+ghost use Rattle.lg_sel.specs.Selected.{IsFrame, AreFirst, is_pusharg, TakesLabelsWell};
+ghost use Rattle.lg_sel.specs.Promises.{IsAppended};
 ghost use Rattle.lg_sela.specs.Selected.{AreChosen};
 ghost use Rattle.lg_base.specs.declared.target.Target.{Target};
 
@@ -56,20 +54,9 @@ pub fn select(
     requires room { 0 < buf.old.room }
     requires whole { length buf.old.bytes % 4 ≡ 0 }
     ensures refused { result ≡ false → (buf.new ≡ buf.old) × (buf.old.capacity < length buf.old.bytes + 256) }
-    ensures bytes { IsTrue result → buf.new.bytes ≡ buf.old.bytes ++ drop (length buf.old.bytes) buf.new.bytes }
-    ensures short { length buf.new.bytes ≤ length buf.old.bytes + 256 }
-    ensures fixes { IsTrue result → buf.new.fixes ≡ buf.old.fixes ++ drop (length buf.old.fixes) buf.new.fixes }
     ensures one_fix { buf.old.room ≤ buf.new.room + 1 }
     ensures others { buf.new ≡ record buf.old { bytes = buf.new.bytes; fixes = buf.new.fixes; room = buf.new.room } }
-    ensures aligned { IsTrue result → IsAligned node.now (length buf.new.bytes) }
-    ensures whole { length buf.new.bytes % 4 ≡ 0 }
-    ensures begins { IsTrue result → is_prolog node.now.op ≡ true → length buf.old.bytes < length buf.new.bytes }
-    ensures lead { IsTrue result → All (IsFixOf 4 buf.old node.now) (drop (length buf.old.fixes) buf.new.fixes) }
-    ensures shortest { IsTrue result → IsShortWhenFinished Target.Aarch64 node.now buf.old buf.new }
-    ensures ahead { IsTrue result → IsAheadWhenFinished Target.Aarch64 node.now buf.old buf.new }
-    ensures instructions { IsTrue result → AreInstructionsWhenFinished Target.Aarch64 buf.old buf.new }
-    ensures sparing { IsTrue result → IsSparingWhenFinished Target.Aarch64 node.now homes saved choices.now buf.old buf.new }
-    ensures carries { IsTrue result → IsCarriedWhenFinished Target.Aarch64 node.now frame homes saved (has live_after) staged.arguments buf.old buf.new }
+    ensures appended { IsTrue result → IsAppended Target.Aarch64 node.now frame homes saved (has live_after) staged.arguments choices.now buf.old buf.new }
 {
     let operands = node.operands.as_slice();
     see_numbers(operands);

@@ -1,5 +1,5 @@
 -- The items of the nodes that branch, jump, call and return, of `prolog`, `.align` and of those without code; none but those of a `prolog` store.
-use Rattle.std.proofs.Common.{◌≡◌, ℕ, zero, suc, ◌+◌, ◌≤◌, Bool, true, false, List, [], ◌∷◌, ◌++◌, refl, arith}
+use Rattle.std.proofs.Common.{◌≡◌, ℕ, zero, suc, ◌+◌, ◌≤◌, Bool, true, false, List, [], ◌∷◌, ◌++◌, refl, arith, length}
 use Rattle.std.specs.Prelude.{◌==◌, ◌&&◌, ◌%◌, ◌^◌, pos, if◌then◌else◌, Option, Some, None}
 use Rattle.lg_base.specs.HostNames.{host_address}
 use Rattle.lg_base.specs.Words.{signed_view, is_half}
@@ -28,7 +28,7 @@ use Rattle.lg_selx.specs.Control.Alignments.{padding, idle, align_code}
 use Rattle.lg_selx.specs.Control.Branches.{comparison, is_difference, taken, far_number, pointer_comparison, wide_comparison, word_comparison, before_branch}
 use Rattle.lg_selx.specs.Control.ControlItems.{jump_kind, plain_kind, branch_if_items, branch_items, sum_items, jump_items, call_items, result_items, ret_items, register_jump_items, register_call_items, leap_items, align_items, control_items}
 use Rattle.lg_selx.specs.Control.HostCalls.{host_code}
-use Rattle.lg_sel.proofs.OfControl.StoreLemmas.{kept-most, homes-most, stores-long}
+use Rattle.lg_sel.proofs.OfControl.StoreLemmas.{kept-most, stores-long}
 use Rattle.lg_sel.specs.Control.Stores.{kept_registers, home_registers}
 use Rattle.lg_selx.specs.Control.Prologs.{store_word, stores_below, lowered, prolog_code}
 use Rattle.lg_selx.specs.Control.RegisterLeaps.{register_jump_code, register_call_code}
@@ -103,7 +103,7 @@ return-none saved =
     (stores.none-append x86_stores (restores saved) leave_code (keep-none (restores saved) (each-taken Keeps saved (restores 3) (refl, (refl, (refl, tt))))) refl) refl
 
 -- a `prolog` stores FP and so many others
-prolog-few : (frame homes saved : ℕ) → stores.stores_among x86_stores (prolog_code saved frame homes) ≤ 1 + homes + saved
+prolog-few : (frame homes saved : ℕ) → stores.stores_among x86_stores (prolog_code saved frame homes) ≤ 1 + length (home_registers X86_64 homes) + saved
 prolog-few frame homes saved =
     let kept : List Instr = stores_below (kept_registers X86_64 saved) 2 in
     let own : List Instr = stores_below (home_registers X86_64 homes) 5 in
@@ -113,8 +113,7 @@ prolog-few frame homes saved =
     let last = stores.among-length x86_stores own in
     let first_long = stores-long store_word (kept_registers X86_64 saved) 2 in
     let last_long = stores-long store_word (home_registers X86_64 homes) 5 in
-    let few = kept-most X86_64 saved in
-    let places = homes-most X86_64 homes in omega (arith, all, both, first, last, first_long, last_long, few, places)
+    let few = kept-most X86_64 saved in omega (arith, all, both, first, last, first_long, last_long, few)
 
 -- the label of a jump is named
 kind-named : (reach : Reach) (is : ℕ → Bool) (holds : Cond) (l : Label) → is l.0 ≡ true → Names reach is (Jump (jump_kind reach holds) l.0)
@@ -187,7 +186,7 @@ module _ (reach : Reach) (is : ℕ → Bool) where
   controls-emit (op.Branch o last) xs frame homes saved at h = branched frame o xs h
   controls-emit (op.BranchSum o last) xs frame homes saved at h = summed frame o xs h
   controls-emit (op.Control o last) xs frame homes saved at h = more reach is 1 1 0 (own_stores X86_64 homes saved (op.Control o last)) (control_items reach (op.Control o last) xs frame homes saved at) (omega arith) (omega arith) (leaps saved o last xs h)
-  controls-emit (op.Plain plain_op.Prolog) xs frame homes saved at h = instructions reach is 1 (1 + homes + saved) (prolog_code saved frame homes) (prolog-few frame homes saved)
+  controls-emit (op.Plain plain_op.Prolog) xs frame homes saved at h = instructions reach is 1 (1 + length (home_registers X86_64 homes) + saved) (prolog_code saved frame homes) (prolog-few frame homes saved)
   controls-emit (op.Plain plain_op.Epilog) xs frame homes saved at h = plain reach is 1 (return_code saved) (return-none saved)
   controls-emit (op.Plain plain_op.Ret) xs frame homes saved at h = plain reach is 1 (return_code saved) (return-none saved)
   controls-emit (op.Plain plain_op.Align) xs frame homes saved at h = aligned at xs

@@ -40,9 +40,6 @@ kept-most target saved =
 pub first-most : (target : Target) (link saved : ℕ) → length (first_registers target link saved) ≤ 2 + saved
 first-most target link saved = let e = kept-most target saved in omega (arith, e)
 
-pub homes-most : (target : Target) (homes : ℕ) → length (home_registers target homes) ≤ homes
-homes-most target homes = let e = length-take homes (argument_registers target) in omega (arith, e)
-
 pub homes-few : (target : Target) (homes : ℕ) → length (home_registers target homes) ≤ 8
 homes-few target homes = let eight = registers-few target in let e = length-take homes (argument_registers target) in omega (arith, eight, e)
 

@@ -1,8 +1,10 @@
 use Rattle.std.proofs.Common.{◌≡◌, refl, ◌≤◌, length, arith, rules}
+use Rattle.std.specs.Prelude.{IsTrue}
 use Rattle.lg_live.specs.RegSets.{has}
-use Rattle.lg_sel.proofs.AppendedLemmas.{short-appended, one-fixed}
+use Rattle.lg_sel.proofs.AppendedLemmas.{lengthened, short-appended, one-fixed}
 use Rattle.lg_sel.proofs.SelectionLemmas.{selected-whole, selected-spares, selected-shortest, selected-ahead, appended-begins}
 use Rattle.lg_sela.proofs.CarriedLemmas.{a64-selection, selected-carries, aligned-behind, at-most-256, appended-whole, appended-lead}
+use Rattle.lg_sela.proofs.FinishedLemmas.{AreAppended}
 use Rattle.lg_sela.proofs.NodeFits.{asked-of, choices-fit, made-fits}
 use Rattle.lg_sela.proofs.ShortLemmas.{node-short, node-ahead}
 use Rattle.lg_sela.proofs.selection.select.Goals as goal
@@ -58,58 +60,38 @@ returns-clause-refused c =
     let same = c.append.ensures.refused in
     search rules
 
-pub returns-clause-short : goal.returns-clause-short
-returns-clause-short c =
-    short-appended c.append.result c.args.buf.now c.append.new.buf (blanks c.shortest_items-reach.new.items) c.append.ensures.refused c.append.ensures.bytes c.shortest_items-reach.ensures.emittable.small
-
 pub returns-clause-one_fix : goal.returns-clause-one_fix
 returns-clause-one_fix c =
     one-fixed c.append.result c.args.buf.now c.append.new.buf (length (fixes_of (length c.args.buf.now.bytes) c.shortest_items-reach.new.items)) c.append.ensures.refused c.append.ensures.room
     (c.shortest_items-reach.ensures.emittable.fixed (length c.args.buf.now.bytes))
 
-pub returns-clause-carries : goal.returns-clause-carries
-returns-clause-carries c = λ went.
-    selected-carries c.args.homes c.args.saved c.shortest_items-reach.result c.args.node.now c.args.frame (has c.args.live_after) c.args.staged.arguments c.args.choices.now c.args.buf.now c.append.new.buf
-    c.shortest_items-reach.new.items c.requires.frame (asked c) (made c) (few c) record { bytes = c.append.ensures.bytes went; fixes = c.append.ensures.fixes went } c.requires.whole
+went-in : (c : goal.After-append) → IsTrue c.append.result → AreAppended c.args.buf.now c.append.new.buf c.shortest_items-reach.new.items
+went-in c went = record { bytes = c.append.ensures.bytes went; fixes = c.append.ensures.fixes went }
 
-pub returns-clause-instructions : goal.returns-clause-instructions
-returns-clause-instructions c = λ went.
-    selected-whole (a64-selection c.args.homes c.args.saved) c.shortest_items-reach.result c.args.node.now c.args.frame (has c.args.live_after) c.args.staged.arguments c.args.choices.now c.args.buf.now c.append.new.buf
-    c.shortest_items-reach.new.items c.requires.frame (asked c) (made c) record { bytes = c.append.ensures.bytes went; fixes = c.append.ensures.fixes went }
-
-pub returns-clause-sparing : goal.returns-clause-sparing
-returns-clause-sparing c = λ went.
-    selected-spares (a64-selection c.args.homes c.args.saved) c.shortest_items-reach.result c.args.node.now c.args.frame (has c.args.live_after) c.args.staged.arguments c.args.choices.now c.args.buf.now c.append.new.buf
-    c.shortest_items-reach.new.items c.requires.frame (asked c) (made c) record { bytes = c.append.ensures.bytes went; fixes = c.append.ensures.fixes went }
-
-pub returns-clause-shortest : goal.returns-clause-shortest
-returns-clause-shortest c = λ went.
-    selected-shortest (a64-selection c.args.homes c.args.saved) c.shortest_items-reach.result c.args.node.now c.args.frame (has c.args.live_after) c.args.staged.arguments c.args.choices.now c.args.buf.now c.append.new.buf
-    c.shortest_items-reach.new.items c.requires.frame (asked c) (made c) record { bytes = c.append.ensures.bytes went; fixes = c.append.ensures.fixes went }
-    (λ code d i goal f. node-short c.args.buf.now c.append.new.buf code d i f goal c.args.frame c.args.homes c.args.saved) c.shortest_items-reach.ensures.checked
-    (λ l goal first bound low. c.shortest_items-reach.ensures.least l goal first bound low)
-
-pub returns-clause-ahead : goal.returns-clause-ahead
-returns-clause-ahead c = λ went.
-    selected-ahead (a64-selection c.args.homes c.args.saved) c.shortest_items-reach.result c.args.node.now c.args.frame (has c.args.live_after) c.args.staged.arguments c.args.choices.now c.args.buf.now c.append.new.buf
-    c.shortest_items-reach.new.items c.requires.frame (asked c) (made c) record { bytes = c.append.ensures.bytes went; fixes = c.append.ensures.fixes went }
-    (λ code d i f. node-ahead c.args.buf.now c.append.new.buf code d i f c.args.frame c.args.homes c.args.saved) c.shortest_items-reach.ensures.checked
-    (λ l first free low. c.shortest_items-reach.ensures.ahead l first free low)
-
-pub returns-clause-aligned : goal.returns-clause-aligned
-returns-clause-aligned c =
-    aligned-behind c.args.homes c.args.saved c.shortest_items-reach.result c.append.result c.args.node.now c.args.frame c.args.choices.now c.args.staged.arguments c.args.buf.now c.append.new.buf c.shortest_items-reach.new.items c.requires.formed
-    (made c) c.append.ensures.bytes c.requires.whole
-
-pub returns-clause-whole : goal.returns-clause-whole
-returns-clause-whole c = appended-whole c.append.result c.args.buf.now c.append.new.buf c.shortest_items-reach.new.items c.append.ensures.refused c.append.ensures.bytes c.requires.whole
-
-pub returns-clause-begins : goal.returns-clause-begins
-returns-clause-begins c =
-    appended-begins (a64-selection c.args.homes c.args.saved) c.shortest_items-reach.result c.append.result c.args.node.now c.args.frame c.args.choices.now c.args.staged.arguments c.args.buf.now c.append.new.buf c.shortest_items-reach.new.items (made c)
-    c.append.ensures.refused c.append.ensures.bytes
-
-pub returns-clause-lead : goal.returns-clause-lead
-returns-clause-lead c = λ went.
-    appended-lead c.args.node.now c.args.buf.now c.args.homes c.args.saved c.shortest_items-reach.result c.args.frame c.args.choices.now c.args.staged.arguments c.append.new.buf c.shortest_items-reach.new.items (made c) (c.append.ensures.fixes went) c.requires.whole
-    c.shortest_items-reach.ensures.checked
+pub returns-clause-appended : goal.returns-clause-appended
+returns-clause-appended c = λ went. record {
+  bytes = lengthened c.args.buf.now.bytes c.append.new.buf.bytes (blanks c.shortest_items-reach.new.items) (c.append.ensures.bytes went);
+  short = short-appended c.append.result c.args.buf.now c.append.new.buf (blanks c.shortest_items-reach.new.items) c.append.ensures.refused c.append.ensures.bytes c.shortest_items-reach.ensures.emittable.small;
+  whole = appended-whole c.append.result c.args.buf.now c.append.new.buf c.shortest_items-reach.new.items c.append.ensures.refused c.append.ensures.bytes c.requires.whole;
+  begins = appended-begins (a64-selection c.args.homes c.args.saved) c.shortest_items-reach.result c.append.result c.args.node.now c.args.frame c.args.choices.now c.args.staged.arguments c.args.buf.now c.append.new.buf c.shortest_items-reach.new.items (made c)
+      c.append.ensures.refused c.append.ensures.bytes went;
+  aligned = aligned-behind c.args.homes c.args.saved c.shortest_items-reach.result c.append.result c.args.node.now c.args.frame c.args.choices.now c.args.staged.arguments c.args.buf.now c.append.new.buf c.shortest_items-reach.new.items c.requires.formed
+      (made c) c.append.ensures.bytes c.requires.whole went;
+  fixes = lengthened c.args.buf.now.fixes c.append.new.buf.fixes (fixes_of (length c.args.buf.now.bytes) c.shortest_items-reach.new.items) (c.append.ensures.fixes went);
+  lead = appended-lead c.args.node.now c.args.buf.now c.args.homes c.args.saved c.shortest_items-reach.result c.args.frame c.args.choices.now c.args.staged.arguments c.append.new.buf c.shortest_items-reach.new.items (made c) (c.append.ensures.fixes went) c.requires.whole
+      c.shortest_items-reach.ensures.checked;
+  shortest = selected-shortest (a64-selection c.args.homes c.args.saved) c.shortest_items-reach.result c.args.node.now c.args.frame (has c.args.live_after) c.args.staged.arguments c.args.choices.now c.args.buf.now c.append.new.buf
+      c.shortest_items-reach.new.items c.requires.frame (asked c) (made c) (went-in c went)
+      (λ code d i goal f. node-short c.args.buf.now c.append.new.buf code d i f goal c.args.frame c.args.homes c.args.saved) c.shortest_items-reach.ensures.checked
+      (λ l goal first bound low. c.shortest_items-reach.ensures.least l goal first bound low);
+  ahead = selected-ahead (a64-selection c.args.homes c.args.saved) c.shortest_items-reach.result c.args.node.now c.args.frame (has c.args.live_after) c.args.staged.arguments c.args.choices.now c.args.buf.now c.append.new.buf
+      c.shortest_items-reach.new.items c.requires.frame (asked c) (made c) (went-in c went)
+      (λ code d i f. node-ahead c.args.buf.now c.append.new.buf code d i f c.args.frame c.args.homes c.args.saved) c.shortest_items-reach.ensures.checked
+      (λ l first free low. c.shortest_items-reach.ensures.ahead l first free low);
+  instructions = selected-whole (a64-selection c.args.homes c.args.saved) c.shortest_items-reach.result c.args.node.now c.args.frame (has c.args.live_after) c.args.staged.arguments c.args.choices.now c.args.buf.now c.append.new.buf
+      c.shortest_items-reach.new.items c.requires.frame (asked c) (made c) (went-in c went);
+  sparing = selected-spares (a64-selection c.args.homes c.args.saved) c.shortest_items-reach.result c.args.node.now c.args.frame (has c.args.live_after) c.args.staged.arguments c.args.choices.now c.args.buf.now c.append.new.buf
+      c.shortest_items-reach.new.items c.requires.frame (asked c) (made c) (went-in c went);
+  carries = selected-carries c.args.homes c.args.saved c.shortest_items-reach.result c.args.node.now c.args.frame (has c.args.live_after) c.args.staged.arguments c.args.choices.now c.args.buf.now c.append.new.buf
+      c.shortest_items-reach.new.items c.requires.frame (asked c) (made c) (few c) (went-in c went) c.requires.whole;
+}
