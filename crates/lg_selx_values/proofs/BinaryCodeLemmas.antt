@@ -1,5 +1,5 @@
 -- The code of the operations on two words in registers gives a register their word, for every pattern of equal registers.
-use Rattle.std.proofs.Common.{◌≡◌, ◌≢◌, ℕ, ◌+◌, ◌-◌, ◌*◌, ◌/◌, ◌%◌, ◌<◌, ◌^◌, Bool, true, false, List, [], ◌∷◌, ◌++◌, Option, Some, refl, sym, ap, ◌∙◌}
+use Rattle.std.proofs.Common.{◌≡◌, ◌≢◌, ℕ, ◌+◌, ◌-◌, ◌*◌, ◌/◌, ◌%◌, ◌<◌, ◌^◌, Bool, true, false, List, [], ◌∷◌, ◌++◌, Option, Some, refl, sym, ap, ◌∙◌, append_assoc}
 use Rattle.std.specs.Prelude.{◌==◌, ◌||◌, not, bit_and, bit_or, bit_xor, if◌then◌else◌}
 use Rattle.std.specs.Option.{option_and_then}
 use Rattle.std.proofs.lemmas.Nat.{and_comm, or_comm, xor_comm}
@@ -30,10 +30,10 @@ use Rattle.lg_carry.specs.Nodes.Straight.{is_taken}
 use Rattle.lg_carry.specs.Values.Computers.{Held}
 use Rattle.lg_selx_values.specs.WordLaws.{BinariesAreMade}
 use Rattle.lg_selx_values.specs.Scratch.{moved, again}
-use Rattle.lg_selx_values.specs.BinaryCode.{commuting, added, product, compared, shifted, divided, register_code}
+use Rattle.lg_selx_values.specs.BinaryCode.{commuting, added, product, compared, shifted, high_half, division, is_dividend, divided, register_code}
 use Rattle.lg_selx_values.specs.Needs.{spoils}
 use Rattle.lg_selx_values.specs.Words.{MakesWord}
-use Rattle.lg_selx_values.proofs.RegisterLemmas.{put-same, put-other, put-twice, equal, apart, moved-makes}
+use Rattle.lg_selx_values.proofs.RegisterLemmas.{put-same, put-other, put-twice, equal, apart, moved-makes, moved-last}
 use Rattle.lg_selx_values.proofs.WordLemmas.{add-swap, answer-word, less-signed, less, zero-difference, not-greater-signed, not-greater, turned-twice}
 use Rattle.lg_selx_values.proofs.AluLemmas.{put-word, commuting-word, difference-word}
 use Rattle.lg_selx_values.proofs.QuotientLemmas.{signed-quotient, unsigned-quotient}
@@ -57,7 +57,7 @@ added-word choices d a b q = by ((d == a) || (d == b))
     by false = put-word choices (Lea2 d a b ∷ []) d (add_words (q.registers a) (q.registers b)) q q.flags (λ bytes. refl)
 
 -- ---- products
-mul-swap : (a b : ℕ) → mul_words a b ≡ mul_words b a
+pub mul-swap : (a b : ℕ) → mul_words a b ≡ mul_words b a
 mul-swap a b = ap (λ x. x % 2 ^ 64) (mul_comm a b)
 
 product-word : (choices : List Choice) (d a b : ℕ) (q : Held) → MakesWord choices (product d a b) d (mul_words (q.registers a) (q.registers b)) q
@@ -167,12 +167,20 @@ shifted-word choices op by d a b q is d1 a1 lends =
     }
 
 -- ---- quotients
+either-false : (b c : Bool) → (b || c) ≡ false → (b ≡ false) × (c ≡ false)
+either-false true c e = cc
+either-false false c e = (refl, e)
+
 -- the two registers that a division takes are taken, or the result's
 module _ (choices : List Choice) (frame r d a b : ℕ) (q : Held) (d5 : d ≢ 5) (d4 : d ≢ 4) (a2 : a ≢ 2) (pointer : add_words (q.registers 4) (frame - 16) ≡ q.registers 5)
     (lends : (x : ℕ) → is_taken choices x ≡ false → x ≢ d → ((x == 0) || (x == 2)) ≡ false) (x y : ℕ) where
   abbrev w : ℕ → ℕ
   w = q.registers
 
+  off : (t : ℕ) → t ≢ d → is_taken choices t ≡ false → ((t == 0) ≡ false) × ((t == 2) ≡ false)
+  off t ne free = either-false (t == 0) (t == 2) (lends t free ne)
+
+  -- the divisor is in rax or rdx, and goes to rbp
   abbrev u1 : ℕ → ℕ
   u1 = put w 2 (w b)
 
@@ -191,48 +199,106 @@ module _ (choices : List Choice) (frame r d a b : ℕ) (q : Held) (d5 : d ≢ 5)
   first : u1 a ≡ w a
   first = put-other w 2 (w b) a a2
 
-  either-false : (b c : Bool) → (b || c) ≡ false → (b ≡ false) × (c ≡ false)
-  either-false true c e = cc
-  either-false false c e = (refl, e)
-
   value-is : (high z : ℕ) → u5 high r ≡ z → u7 high d ≡ z
   value-is high z e = put-other (u6 high) 5 _ d d5 ∙ put-same (u5 high) d (u5 high r) ∙ e
 
   keeps-is : (high t : ℕ) → t ≢ d → is_taken choices t ≡ false → u7 high t ≡ w t
   keeps-is high t ne free = by (t == 5) refl
     where
-      off : ((t == 0) ≡ false) × ((t == 2) ≡ false)
-      off = either-false (t == 0) (t == 2) (lends t free ne)
-
       by : (k : Bool) → (t == 5) ≡ k → u7 high t ≡ w t
       by true e =
           let z : t ≡ 5 = equal t 5 e in
           let low : u6 high 4 ≡ w 4 = put-other (u5 high) d _ 4 (λ f. d4 (sym f)) in
           ap (u7 high) z ∙ ap (λ n. add_words n (frame - 16)) low ∙ pointer ∙ ap w (sym z)
       by false e =
-          put-other (u6 high) 5 _ t (apart t 5 e) ∙ put-other (u5 high) d _ t ne ∙ put-other (put (put u3 2 high) 0 x) 2 y t (apart t 2 off.1) ∙ put-other (put u3 2 high) 0 x t (apart t 0 off.0)
-          ∙ put-other u3 2 high t (apart t 2 off.1) ∙ put-other (put u1 0 (u1 a)) 5 (w b) t (apart t 5 e) ∙ put-other u1 0 (u1 a) t (apart t 0 off.0) ∙ put-other w 2 (w b) t (apart t 2 off.1)
+          let o = off t ne free in
+          put-other (u6 high) 5 _ t (apart t 5 e) ∙ put-other (u5 high) d _ t ne ∙ put-other (put (put u3 2 high) 0 x) 2 y t (apart t 2 o.1) ∙ put-other (put u3 2 high) 0 x t (apart t 0 o.0)
+          ∙ put-other u3 2 high t (apart t 2 o.1) ∙ put-other (put u1 0 (u1 a)) 5 (w b) t (apart t 5 e) ∙ put-other u1 0 (u1 a) t (apart t 0 o.0) ∙ put-other w 2 (w b) t (apart t 2 o.1)
 
   abbrev rest : List Instr
   rest = RmReg alu.Mov d r ∷ again frame
 
-  pub signed-word : quotient_wide_signed (sign_word (w a)) (w a) (w b) ≡ Some (x, y) → (z : ℕ) → ((high : ℕ) → u5 high r ≡ z) → MakesWord choices (divided true frame r d a b) d z q
-  signed-word is z e = record {
-    registers = u7 (sign_word (u1 a));
-    flags = no_flags;
-    value = value-is (sign_word (u1 a)) z (e (sign_word (u1 a)));
-    keeps = keeps-is (sign_word (u1 a));
-    makes_it = λ bytes. ap (λ o. option_and_then (makes rest) (sets_quotient (scene (put u3 2 (sign_word (u1 a))) q.flags bytes) o)) (ap (λ n. quotient_wide_signed (sign_word n) n (w b)) first ∙ is);
-  }
+  abbrev far : Bool → List Instr
+  far signed = RmReg alu.Mov 2 b ∷ RmReg alu.Mov 0 a ∷ RmReg alu.Mov 5 2 ∷ high_half signed ∷ division signed 5 ∷ rest
 
-  pub unsigned-word : quotient_wide 0 (w a) (w b) ≡ Some (x, y) → (z : ℕ) → ((high : ℕ) → u5 high r ≡ z) → MakesWord choices (divided false frame r d a b) d z q
-  unsigned-word is z e = record {
-    registers = u7 0;
-    flags = no_flags;
-    value = value-is 0 z (e 0);
-    keeps = keeps-is 0;
-    makes_it = λ bytes. ap (λ o. option_and_then (makes rest) (sets_quotient (scene (put u3 2 0) q.flags bytes) o)) (ap (λ n. quotient_wide 0 n (w b)) first ∙ is);
-  }
+  -- it is in another register, and stays there
+  abbrev v1 : ℕ → ℕ
+  v1 = put w 0 (w a)
+
+  abbrev v3 : ℕ → ℕ → ℕ
+  v3 high = put (put (put v1 2 high) 0 x) 2 y
+
+  abbrev v4 : ℕ → ℕ → ℕ
+  v4 high = put (v3 high) d (v3 high r)
+
+  near-keeps : (high t : ℕ) → t ≢ d → is_taken choices t ≡ false → v4 high t ≡ w t
+  near-keeps high t ne free =
+      let o = off t ne free in
+      put-other (v3 high) d _ t ne ∙ put-other (put (put v1 2 high) 0 x) 2 y t (apart t 2 o.1) ∙ put-other (put v1 2 high) 0 x t (apart t 0 o.0)
+      ∙ put-other v1 2 high t (apart t 2 o.1) ∙ put-other w 0 (w a) t (apart t 0 o.0)
+
+  abbrev near : Bool → List Instr
+  near signed = (moved 0 a ++ (high_half signed ∷ division signed b ∷ [])) ++ moved d r
+
+  near-makes : (signed : Bool) (bytes : ℕ → Option ℕ)
+      → makes (near signed) (scene w q.flags bytes) ≡ makes (high_half signed ∷ division signed b ∷ moved d r) (scene v1 q.flags bytes)
+  near-makes signed bytes =
+      ap (λ c. makes c (scene w q.flags bytes)) (append_assoc (moved 0 a) (high_half signed ∷ division signed b ∷ []) (moved d r))
+      ∙ moved-makes 0 a (high_half signed ∷ division signed b ∷ moved d r) w q.flags bytes
+
+  divisor : is_dividend b ≡ false → (high : ℕ) → put v1 2 high b ≡ w b
+  divisor e high =
+      let o = either-false (b == 0) (b == 2) e in put-other v1 2 high b (apart b 2 o.1) ∙ put-other w 0 (w a) b (apart b 0 o.0)
+
+  by-place : (signed : Bool) (z : ℕ) → (is_dividend b ≡ true → MakesWord choices (far signed) d z q) → (is_dividend b ≡ false → MakesWord choices (near signed) d z q)
+      → MakesWord choices (divided signed frame r d a b) d z q
+  by-place signed z f n = by (is_dividend b) refl
+    where
+      by : (k : Bool) → is_dividend b ≡ k → MakesWord choices (if k then far signed else near signed) d z q
+      by true e = f e
+      by false e = n e
+
+  pub signed-word : quotient_wide_signed (sign_word (w a)) (w a) (w b) ≡ Some (x, y) → (z : ℕ) → ((high : ℕ) → u5 high r ≡ z) → ((high : ℕ) → v3 high r ≡ z)
+      → MakesWord choices (divided true frame r d a b) d z q
+  signed-word is z e e' = by-place true z
+      (λ at. record {
+        registers = u7 (sign_word (u1 a));
+        flags = no_flags;
+        value = value-is (sign_word (u1 a)) z (e (sign_word (u1 a)));
+        keeps = keeps-is (sign_word (u1 a));
+        makes_it = λ bytes. ap (λ o. option_and_then (makes rest) (sets_quotient (scene (put u3 2 (sign_word (u1 a))) q.flags bytes) o)) (ap (λ n. quotient_wide_signed (sign_word n) n (w b)) first ∙ is);
+      })
+      (λ at. record {
+        registers = v4 (sign_word (w a));
+        flags = no_flags;
+        value = put-same (v3 (sign_word (w a))) d (v3 (sign_word (w a)) r) ∙ e' (sign_word (w a));
+        keeps = near-keeps (sign_word (w a));
+        makes_it = λ bytes. near-makes true bytes
+            ∙ ap (λ o. option_and_then (makes (moved d r)) (sets_quotient (scene (put v1 2 (sign_word (w a))) q.flags bytes) o))
+            (ap (λ n. quotient_wide_signed (sign_word (w a)) (w a) n) (divisor at (sign_word (w a))) ∙ is)
+            ∙ moved-last d r (v3 (sign_word (w a))) no_flags bytes;
+      })
+
+  pub unsigned-word : quotient_wide 0 (w a) (w b) ≡ Some (x, y) → (z : ℕ) → ((high : ℕ) → u5 high r ≡ z) → ((high : ℕ) → v3 high r ≡ z)
+      → MakesWord choices (divided false frame r d a b) d z q
+  unsigned-word is z e e' = by-place false z
+      (λ at. record {
+        registers = u7 0;
+        flags = no_flags;
+        value = value-is 0 z (e 0);
+        keeps = keeps-is 0;
+        makes_it = λ bytes. ap (λ o. option_and_then (makes rest) (sets_quotient (scene (put u3 2 0) q.flags bytes) o)) (ap (λ n. quotient_wide 0 n (w b)) first ∙ is);
+      })
+      (λ at. record {
+        registers = v4 0;
+        flags = no_flags;
+        value = put-same (v3 0) d (v3 0 r) ∙ e' 0;
+        keeps = near-keeps 0;
+        makes_it = λ bytes. near-makes false bytes
+            ∙ ap (λ o. option_and_then (makes (moved d r)) (sets_quotient (scene (put v1 2 0) q.flags bytes) o))
+            (ap (λ n. quotient_wide 0 (w a) n) (divisor at 0) ∙ is)
+            ∙ moved-last d r (v3 0) no_flags bytes;
+      })
 
 -- ---- all operations
 
@@ -263,10 +329,10 @@ module _ (choices : List Choice) (frame d a b : ℕ) (q : Held) (d5 : d ≢ 5) (
   register-word binary.Lsh z p l e = as-word choices (register_code binary.Lsh frame d a b) d (shifted_left x (y % 64)) z q (shifted-word choices Shl Shli d a b q record { made = λ d w f bytes. refl } d1 a1 l) (some-same _ z e)
   register-word binary.Rsh z p l e = as-word choices (register_code binary.Rsh frame d a b) d (shifted_right_signed x (y % 64)) z q (shifted-word choices Sar Sari d a b q record { made = λ d w f bytes. refl } d1 a1 l) (some-same _ z e)
   register-word binary.RshU z p l e = as-word choices (register_code binary.RshU frame d a b) d (shifted_right x (y % 64)) z q (shifted-word choices Shr Shri d a b q record { made = λ d w f bytes. refl } d1 a1 l) (some-same _ z e)
-  register-word binary.Div z p l e = let m = where-is (divides x y) (quotient_signed x y) z e in signed-word choices frame 0 d a b q d5 d4 a2 pointer l (quotient_signed x y) (remainder_signed x y) (signed-quotient x y (words a) (words b) m.holds) z (λ high. m.is)
-  register-word binary.Rem z p l e = let m = where-is (divides x y) (remainder_signed x y) z e in signed-word choices frame 2 d a b q d5 d4 a2 pointer l (quotient_signed x y) (remainder_signed x y) (signed-quotient x y (words a) (words b) m.holds) z (λ high. m.is)
-  register-word binary.DivU z p l e = let m = where-is (not (y == 0)) (quotient x y) z e in unsigned-word choices frame 0 d a b q d5 d4 a2 pointer l (quotient x y) (remainder x y) (unsigned-quotient x y m.holds) z (λ high. m.is)
-  register-word binary.RemU z p l e = let m = where-is (not (y == 0)) (remainder x y) z e in unsigned-word choices frame 2 d a b q d5 d4 a2 pointer l (quotient x y) (remainder x y) (unsigned-quotient x y m.holds) z (λ high. m.is)
+  register-word binary.Div z p l e = let m = where-is (divides x y) (quotient_signed x y) z e in signed-word choices frame 0 d a b q d5 d4 a2 pointer l (quotient_signed x y) (remainder_signed x y) (signed-quotient x y (words a) (words b) m.holds) z (λ high. m.is) (λ high. m.is)
+  register-word binary.Rem z p l e = let m = where-is (divides x y) (remainder_signed x y) z e in signed-word choices frame 2 d a b q d5 d4 a2 pointer l (quotient_signed x y) (remainder_signed x y) (signed-quotient x y (words a) (words b) m.holds) z (λ high. m.is) (λ high. m.is)
+  register-word binary.DivU z p l e = let m = where-is (not (y == 0)) (quotient x y) z e in unsigned-word choices frame 0 d a b q d5 d4 a2 pointer l (quotient x y) (remainder x y) (unsigned-quotient x y m.holds) z (λ high. m.is) (λ high. m.is)
+  register-word binary.RemU z p l e = let m = where-is (not (y == 0)) (remainder x y) z e in unsigned-word choices frame 2 d a b q d5 d4 a2 pointer l (quotient x y) (remainder x y) (unsigned-quotient x y m.holds) z (λ high. m.is) (λ high. m.is)
   register-word binary.Lt z p l e = as-word choices (register_code binary.Lt frame d a b) d _ z q (compared-word choices cond.Less d a b q _ (less-tells x y (words a) (words b))) (some-same _ z e)
   register-word binary.LtU z p l e = as-word choices (register_code binary.LtU frame d a b) d _ z q (compared-word choices cond.Below d a b q _ (below-tells x y (words a) (words b))) (some-same _ z e)
   register-word binary.Le z p l e = as-word choices (register_code binary.Le frame d a b) d _ z q (compared-word choices cond.LessOrEqual d a b q _ (less-or-equal-tells x y (words a) (words b))) (some-same _ z e)

@@ -1,5 +1,5 @@
 -- Items that are appended to others.
-use Rattle.std.proofs.Common.{◌≡◌, ℕ, ◌+◌, ◌≤◌, Bool, true, false, List, [], ◌∷◌, ◌++◌, length, sym, ap, ◌∙◌, arith, append_assoc}
+use Rattle.std.proofs.Common.{◌≡◌, ℕ, ◌+◌, ◌≤◌, Bool, true, false, List, [], ◌∷◌, ◌++◌, length, sym, ap, ◌∙◌, arith, append_assoc, length-append}
 use Rattle.std.specs.Prelude.{◌==◌, if◌then◌else◌}
 use Rattle.lg_x86.specs.declared.instruction.Instr.{Instr}
 use Rattle.lg_x86.specs.declared.instruction.Instr.TheVariants.{RmReg}
@@ -22,6 +22,16 @@ one_words xs i = words_append xs (One i ∷ [])
 
 words_more : (xs : List Item) (is : List Instr) → words_in (xs ++ ones is) ≡ words_in xs + length is
 words_more xs is = words_append xs (ones is) ∙ ap (λ n. words_in xs + n) (words-ones is)
+
+pub behind_words : (xs : List Item) (d a : ℕ) (is : List Instr) → words_in (xs ++ ones (moved d a ++ is)) ≤ words_in xs + 1 + length is
+behind_words xs d a is =
+    let w = words_more xs (moved d a ++ is) in
+    let l = length-append (moved d a) is in
+    let f = moved-few (d == a) in omega (arith, w, l, f)
+  where
+    moved-few : (b : Bool) → length (if b then [] else RmReg Mov d a ∷ []) ≤ 1
+    moved-few true = omega arith
+    moved-few false = omega arith
 
 pub moved_words : (xs : List Item) (d a : ℕ) → words_in (xs ++ ones (moved d a)) ≤ words_in xs + 1
 moved_words xs d a = let w = words_more xs (moved d a) in let f = few (d == a) in omega (arith, w, f)

@@ -1,5 +1,5 @@
 -- Nodes that compute values from a register and a word of the text.
-use Rattle.std.proofs.Common.{◌≡◌, ◌≢◌, ℕ, ◌^◌, ◌<◌, ◌≤◌, Bool, true, false, [], Some, refl, sym, ap, ◌∙◌, subst, length, arith}
+use Rattle.std.proofs.Common.{◌≡◌, ◌≢◌, ℕ, ◌^◌, ◌<◌, ◌≤◌, Bool, true, false, [], Some, refl, sym, ap, ◌∙◌, subst, length, arith, ◌==◌}
 use Rattle.lg_base.specs.Flags.{carry_of}
 use Rattle.lg_base.specs.declared.target.Target.TheVariants.{X86_64}
 use Rattle.lg_op.specs.declared.op.Op.TheVariants as op
@@ -19,7 +19,7 @@ use Rattle.lg_carry.specs.Values.Computers.{Held}
 use Rattle.lg_carry.specs.Values.ValueNodes.{binary_node}
 use Rattle.lg_carry.proofs.OfValues.ResultLemmas.{or-false}
 use Rattle.lg_base.specs.Words.{is_half, negated}
-use Rattle.lg_selx_values.specs.BinaryCode.{is_near, number_form_code}
+use Rattle.lg_selx_values.specs.BinaryCode.{is_near, is_dividend, number_form_code}
 use Rattle.lg_selx_values.specs.CarryCode.{carry_number_code}
 use Rattle.lg_selx_values.specs.Needs.{value_needs}
 use Rattle.lg_selx_values.specs.NumberWords.{number_spoils}
@@ -62,14 +62,14 @@ code-some binary.And frame d a v p = some-either (is_half v) _ _ (some-moved d a
 code-some binary.Or frame d a v p = some-either (is_half v) _ _ (some-moved d a _ (omega arith)) (some-moved d a _ (omega arith))
 code-some binary.Xor frame d a v p = some-either (is_half v) _ _ (some-moved d a _ (omega arith)) (some-moved d a _ (omega arith))
 code-some binary.Rsb frame d a v p = some-moved d a _ (omega arith)
-code-some binary.Mul frame d a v p = some-moved d a _ (omega arith)
+code-some binary.Mul frame d a v p = some-either (d == a) _ _ (omega arith) (omega arith)
 code-some binary.Lsh frame d a v p = some-moved d a _ (omega arith)
 code-some binary.Rsh frame d a v p = some-moved d a _ (omega arith)
 code-some binary.RshU frame d a v p = some-moved d a _ (omega arith)
-code-some binary.Div frame d a v p = omega arith
-code-some binary.DivU frame d a v p = omega arith
-code-some binary.Rem frame d a v p = omega arith
-code-some binary.RemU frame d a v p = omega arith
+code-some binary.Div frame d a v p = some-either (is_dividend d) _ _ (some-moved 0 a _ (omega arith)) (some-moved 0 a _ (omega arith))
+code-some binary.DivU frame d a v p = some-either (is_dividend d) _ _ (some-moved 0 a _ (omega arith)) (some-moved 0 a _ (omega arith))
+code-some binary.Rem frame d a v p = some-either (is_dividend d) _ _ (some-moved 0 a _ (omega arith)) (some-moved 0 a _ (omega arith))
+code-some binary.RemU frame d a v p = some-either (is_dividend d) _ _ (some-moved 0 a _ (omega arith)) (some-moved 0 a _ (omega arith))
 code-some binary.Addc frame d a v p = cc
 code-some binary.Subc frame d a v p = cc
 code-some binary.Addx frame d a v p = cc

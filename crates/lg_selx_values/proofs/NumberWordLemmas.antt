@@ -32,13 +32,13 @@ use Rattle.lg_carry.specs.Values.Computers.{Held}
 use Rattle.lg_selx_values.specs.Processor.MakingNodes.{scene}
 use Rattle.lg_selx_values.specs.Processor.Makings.{makes}
 use Rattle.lg_selx_values.specs.Processor.Numbers.{number_row}
-use Rattle.lg_selx_values.proofs.OfProcessor.NumberCodeLemmas.{view-word, row-loads}
-use Rattle.lg_selx_values.specs.BinaryCode.{with_number, is_near, answer, compared_number, shifted_number, divided_number, number_form_code}
+use Rattle.lg_selx_values.proofs.OfProcessor.NumberCodeLemmas.{view-word, row-value, row-loads}
+use Rattle.lg_selx_values.specs.BinaryCode.{with_number, is_near, answer, compared_number, product_number, shifted_number, high_half, division, is_dividend, divided_number, number_form_code}
 use Rattle.lg_selx_values.specs.NumberWords.{number_spoils, NumbersAreMade}
 use Rattle.lg_selx_values.specs.Scratch.{moved, again}
 use Rattle.lg_selx_values.specs.Words.{MakesWord}
 use Rattle.lg_selx_values.proofs.AluLemmas.{put-word}
-use Rattle.lg_selx_values.proofs.BinaryCodeLemmas.{some-same, less-tells, below-tells, less-or-equal-tells, below-or-equal-tells, greater-or-equal-tells, above-or-equal-tells, greater-tells, above-tells, equal-tells, not-equal-tells}
+use Rattle.lg_selx_values.proofs.BinaryCodeLemmas.{mul-swap, some-same, less-tells, below-tells, less-or-equal-tells, below-or-equal-tells, greater-or-equal-tells, above-or-equal-tells, greater-tells, above-tells, equal-tells, not-equal-tells}
 use Rattle.lg_selx_values.proofs.NumberLemmas.{number-row-word}
 use Rattle.lg_selx_values.proofs.QuotientLemmas.{signed-quotient, unsigned-quotient}
 use Rattle.lg_selx_values.proofs.RegisterLemmas.{put-same, put-other, put-twice, equal, apart, moved-makes}
@@ -92,8 +92,8 @@ module _ (frame d a v : ℕ) (q : Held) (d5 : d ≢ 5) (d4 : d ≢ 4) (small : v
   loads : (rest : List Instr) (bytes : ℕ → Option ℕ) → makes (moved d a ++ (number_row 5 v ∷ rest)) (scene w q.flags bytes) ≡ makes rest (scene u5 q.flags bytes)
   loads rest bytes = moved-makes d a (number_row 5 v ∷ rest) w q.flags bytes ∙ ap (option_and_then (makes rest)) ((row-loads 5 v (omega arith) small).value (scene u q.flags bytes))
 
-  pub product-number : MakesWord [] (moved d a ++ (number_row 5 v ∷ (RegRm Imul d 5 ∷ again frame))) d (mul_words (w a) v) q
-  product-number = record {
+  product-by-rbp : MakesWord [] (moved d a ++ (number_row 5 v ∷ (RegRm Imul d 5 ∷ again frame))) d (mul_words (w a) v) q
+  product-by-rbp = record {
     registers = all (mul_words (w a) v);
     flags = product_flags (needs_high_signed (w a) v);
     value = all-value (mul_words (w a) v);
@@ -101,6 +101,25 @@ module _ (frame d a v : ℕ) (q : Held) (d5 : d ≢ 5) (d4 : d ≢ 4) (small : v
     makes_it = λ bytes. loads (RegRm Imul d 5 ∷ again frame) bytes
         ∙ ap (λ x. makes (again frame) (scene (put u5 d (mul_words x v)) (product_flags (needs_high_signed x v)) bytes)) first;
   }
+
+  pub product-word : MakesWord [] (product_number frame d a v) d (mul_words (w a) v) q
+  product-word = by (d == a) refl
+    where
+      rest : List Instr
+      rest = number_row 5 v ∷ RegRm Imul d 5 ∷ again frame
+
+      by : (k : Bool) → (d == a) ≡ k → MakesWord [] (if k then rest else number_row d v ∷ RegRm Imul d a ∷ []) d (mul_words (w a) v) q
+      by true e = subst (λ k. MakesWord [] ((if k then [] else RmReg alu.Mov d a ∷ []) ++ rest) d (mul_words (w a) v) q) e product-by-rbp
+      by false e =
+          let s : ℕ → ℕ = put w d v in
+          let held : s d ≡ v = put-same w d v in
+          let other : s a ≡ w a = put-other w d v a (λ z. apart d a e (sym z)) in
+          let behind : Flags = product_flags (needs_high_signed v (w a)) in
+          put-word [] (number_row d v ∷ RegRm Imul d a ∷ []) d (mul_words (w a) v) q behind
+          (λ bytes. ap (option_and_then (makes (RegRm Imul d a ∷ []))) (row-value d v small (scene w q.flags bytes))
+          ∙ (λ i. Some (scene (put s d (mul_words (held i) (other i))) (product_flags (needs_high_signed (held i) (other i))) bytes))
+          ∙ ap (λ g. Some (scene g behind bytes)) (put-twice w d v (mul_words v (w a)))
+          ∙ ap (λ x. Some (scene (put w d x) behind bytes)) (mul-swap v (w a)))
 
   pub shift-number : (by : ShiftOp) → MakesWord [] (shifted_number by d a v) d (shift_value by (w a) (v % 64)) q
   shift-number by =
@@ -172,8 +191,15 @@ module _ (choices : List Choice) (frame r d a v : ℕ) (q : Held) (d5 : d ≢ 5)
   abbrev wq : ℕ → ℕ
   wq = q.registers
 
+  abbrev wr : ℕ → ℕ
+  wr = put wq 0 (wq a)
+
+  off : (t : ℕ) → t ≢ d → is_taken choices t ≡ false → ((t == 0) ≡ false) × ((t == 2) ≡ false)
+  off t ne free = or_parts (t == 0) (t == 2) (lends t free ne)
+
+  -- the number goes to rbp
   abbrev u2 : ℕ → ℕ
-  u2 = put (put wq 0 (wq a)) 5 v
+  u2 = put wr 5 v
 
   abbrev x5 : ℕ → ℕ → ℕ
   x5 high = put (put (put u2 2 high) 0 x) 2 y
@@ -190,39 +216,101 @@ module _ (choices : List Choice) (frame r d a v : ℕ) (q : Held) (d5 : d ≢ 5)
   x7-keeps : (high t : ℕ) → t ≢ d → is_taken choices t ≡ false → x7 high t ≡ wq t
   x7-keeps high t ne free = by (t == 5) refl
     where
-      off : ((t == 0) ≡ false) × ((t == 2) ≡ false)
-      off = or_parts (t == 0) (t == 2) (lends t free ne)
-
       by : (k : Bool) → (t == 5) ≡ k → x7 high t ≡ wq t
       by true e =
           let z : t ≡ 5 = equal t 5 e in
           ap (x7 high) z ∙ ap (λ n. add_words n (frame - 16)) (put-other (x5 high) d _ 4 (λ f. d4 (sym f))) ∙ pointer ∙ ap wq (sym z)
       by false e =
-          put-other (x6 high) 5 _ t (apart t 5 e) ∙ put-other (x5 high) d _ t ne ∙ put-other (put (put u2 2 high) 0 x) 2 y t (apart t 2 off.1) ∙ put-other (put u2 2 high) 0 x t (apart t 0 off.0)
-          ∙ put-other u2 2 high t (apart t 2 off.1) ∙ put-other (put wq 0 (wq a)) 5 v t (apart t 5 e) ∙ put-other wq 0 (wq a) t (apart t 0 off.0)
+          let o = off t ne free in
+          put-other (x6 high) 5 _ t (apart t 5 e) ∙ put-other (x5 high) d _ t ne ∙ put-other (put (put u2 2 high) 0 x) 2 y t (apart t 2 o.1) ∙ put-other (put u2 2 high) 0 x t (apart t 0 o.0)
+          ∙ put-other u2 2 high t (apart t 2 o.1) ∙ put-other wr 5 v t (apart t 5 e) ∙ put-other wq 0 (wq a) t (apart t 0 o.0)
 
   abbrev tail : List Instr
   tail = RmReg alu.Mov d r ∷ again frame
 
-  pub signed-number : quotient_wide_signed (sign_word (wq a)) (wq a) v ≡ Some (x, y) → (z : ℕ) → ((high : ℕ) → x5 high r ≡ z) → MakesWord choices (divided_number true frame r d a v) d z q
-  signed-number is z e = record {
-    registers = x7 (sign_word (wq a));
-    flags = no_flags;
-    value = x7-value (sign_word (wq a)) z (e (sign_word (wq a)));
-    keeps = x7-keeps (sign_word (wq a));
-    makes_it = λ bytes. ap (option_and_then (makes (Bare Cqo ∷ Unary Idiv 5 ∷ tail))) ((row-loads 5 v (omega arith) small).value (scene (put wq 0 (wq a)) q.flags bytes))
-        ∙ ap (λ o. option_and_then (makes tail) (sets_quotient (scene (put u2 2 (sign_word (wq a))) q.flags bytes) o)) is;
-  }
+  abbrev far : Bool → List Instr
+  far signed = moved 0 a ++ (number_row 5 v ∷ high_half signed ∷ division signed 5 ∷ tail)
 
-  pub unsigned-number : quotient_wide 0 (wq a) v ≡ Some (x, y) → (z : ℕ) → ((high : ℕ) → x5 high r ≡ z) → MakesWord choices (divided_number false frame r d a v) d z q
-  unsigned-number is z e = record {
-    registers = x7 0;
-    flags = no_flags;
-    value = x7-value 0 z (e 0);
-    keeps = x7-keeps 0;
-    makes_it = λ bytes. ap (option_and_then (makes (Movi32 2 0 ∷ Unary Div 5 ∷ tail))) ((row-loads 5 v (omega arith) small).value (scene (put wq 0 (wq a)) q.flags bytes))
-        ∙ ap (λ o. option_and_then (makes tail) (sets_quotient (scene (put u2 2 0) q.flags bytes) o)) is;
-  }
+  -- it goes to the result's register
+  abbrev z2 : ℕ → ℕ
+  z2 = put wr d v
+
+  abbrev z5 : ℕ → ℕ → ℕ
+  z5 high = put (put (put z2 2 high) 0 x) 2 y
+
+  abbrev z6 : ℕ → ℕ → ℕ
+  z6 high = put (z5 high) d (z5 high r)
+
+  z6-keeps : (high t : ℕ) → t ≢ d → is_taken choices t ≡ false → z6 high t ≡ wq t
+  z6-keeps high t ne free =
+      let o = off t ne free in
+      put-other (z5 high) d _ t ne ∙ put-other (put (put z2 2 high) 0 x) 2 y t (apart t 2 o.1) ∙ put-other (put z2 2 high) 0 x t (apart t 0 o.0)
+      ∙ put-other z2 2 high t (apart t 2 o.1) ∙ put-other wr d v t ne ∙ put-other wq 0 (wq a) t (apart t 0 o.0)
+
+  abbrev near : Bool → List Instr
+  near signed = moved 0 a ++ (number_row d v ∷ high_half signed ∷ division signed d ∷ RmReg alu.Mov d r ∷ [])
+
+  -- the dividend, and the divisor
+  dividend : is_dividend d ≡ false → z2 0 ≡ wq a
+  dividend e = let o = or_parts (d == 0) (d == 2) e in put-other wr d v 0 (λ z. apart d 0 o.0 (sym z))
+
+  divisor : is_dividend d ≡ false → (high : ℕ) → put z2 2 high d ≡ v
+  divisor e high = let o = or_parts (d == 0) (d == 2) e in put-other z2 2 high d (apart d 2 o.1) ∙ put-same wr d v
+
+  by-place : (signed : Bool) (z : ℕ) → MakesWord choices (far signed) d z q → (is_dividend d ≡ false → MakesWord choices (near signed) d z q)
+      → MakesWord choices (divided_number signed frame r d a v) d z q
+  by-place signed z f n = by (is_dividend d) refl
+    where
+      by : (k : Bool) → is_dividend d ≡ k → MakesWord choices (if k then far signed else near signed) d z q
+      by true e = f
+      by false e = n e
+
+  pub signed-number : quotient_wide_signed (sign_word (wq a)) (wq a) v ≡ Some (x, y) → (z : ℕ) → ((high : ℕ) → x5 high r ≡ z) → ((high : ℕ) → z5 high r ≡ z)
+      → MakesWord choices (divided_number true frame r d a v) d z q
+  signed-number is z e e' = by-place true z
+      record {
+        registers = x7 (sign_word (wq a));
+        flags = no_flags;
+        value = x7-value (sign_word (wq a)) z (e (sign_word (wq a)));
+        keeps = x7-keeps (sign_word (wq a));
+        makes_it = λ bytes. moved-makes 0 a (number_row 5 v ∷ Bare Cqo ∷ Unary Idiv 5 ∷ tail) wq q.flags bytes
+            ∙ ap (option_and_then (makes (Bare Cqo ∷ Unary Idiv 5 ∷ tail))) (row-value 5 v small (scene wr q.flags bytes))
+            ∙ ap (λ o. option_and_then (makes tail) (sets_quotient (scene (put u2 2 (sign_word (wq a))) q.flags bytes) o)) is;
+      }
+      (λ at. record {
+        registers = z6 (sign_word (wq a));
+        flags = no_flags;
+        value = put-same (z5 (sign_word (wq a))) d (z5 (sign_word (wq a)) r) ∙ e' (sign_word (wq a));
+        keeps = z6-keeps (sign_word (wq a));
+        makes_it = λ bytes. moved-makes 0 a (number_row d v ∷ Bare Cqo ∷ Unary Idiv d ∷ RmReg alu.Mov d r ∷ []) wq q.flags bytes
+            ∙ ap (option_and_then (makes (Bare Cqo ∷ Unary Idiv d ∷ RmReg alu.Mov d r ∷ []))) (row-value d v small (scene wr q.flags bytes))
+            ∙ ap (λ n. makes (Unary Idiv d ∷ RmReg alu.Mov d r ∷ []) (scene (put z2 2 (sign_word n)) q.flags bytes)) (dividend at)
+            ∙ ap (λ o. option_and_then (makes (RmReg alu.Mov d r ∷ [])) (sets_quotient (scene (put z2 2 (sign_word (wq a))) q.flags bytes) o))
+            ((λ i. quotient_wide_signed (sign_word (wq a)) (dividend at i) (divisor at (sign_word (wq a)) i)) ∙ is);
+      })
+
+  pub unsigned-number : quotient_wide 0 (wq a) v ≡ Some (x, y) → (z : ℕ) → ((high : ℕ) → x5 high r ≡ z) → ((high : ℕ) → z5 high r ≡ z)
+      → MakesWord choices (divided_number false frame r d a v) d z q
+  unsigned-number is z e e' = by-place false z
+      record {
+        registers = x7 0;
+        flags = no_flags;
+        value = x7-value 0 z (e 0);
+        keeps = x7-keeps 0;
+        makes_it = λ bytes. moved-makes 0 a (number_row 5 v ∷ Movi32 2 0 ∷ Unary Div 5 ∷ tail) wq q.flags bytes
+            ∙ ap (option_and_then (makes (Movi32 2 0 ∷ Unary Div 5 ∷ tail))) (row-value 5 v small (scene wr q.flags bytes))
+            ∙ ap (λ o. option_and_then (makes tail) (sets_quotient (scene (put u2 2 0) q.flags bytes) o)) is;
+      }
+      (λ at. record {
+        registers = z6 0;
+        flags = no_flags;
+        value = put-same (z5 0) d (z5 0 r) ∙ e' 0;
+        keeps = z6-keeps 0;
+        makes_it = λ bytes. moved-makes 0 a (number_row d v ∷ Movi32 2 0 ∷ Unary Div d ∷ RmReg alu.Mov d r ∷ []) wq q.flags bytes
+            ∙ ap (option_and_then (makes (Movi32 2 0 ∷ Unary Div d ∷ RmReg alu.Mov d r ∷ []))) (row-value d v small (scene wr q.flags bytes))
+            ∙ ap (λ o. option_and_then (makes (RmReg alu.Mov d r ∷ [])) (sets_quotient (scene (put z2 2 0) q.flags bytes) o))
+            ((λ i. quotient_wide 0 (dividend at i) (divisor at 0 i)) ∙ is);
+      })
 
 -- ---- sums
 negated-small : (v : ℕ) → negated v < 2 ^ 64
@@ -263,14 +351,14 @@ module _ (choices : List Choice) (frame d a v : ℕ) (q : Held) (d5 : d ≢ 5) (
   number-word binary.Or z p l e = row-word binary.Or imm.Ori (bit_or m v) z refl refl refl refl e
   number-word binary.Xor z p l e = row-word binary.Xor imm.Xori (bit_xor m v) z refl refl refl refl e
   number-word binary.Rsb z p l e = as-word choices (number_form_code binary.Rsb frame d a v) d (sub_words v m) z q (turned-number frame d a v q d5 d4 small words pointer) (some-same _ z e)
-  number-word binary.Mul z p l e = as-word choices (number_form_code binary.Mul frame d a v) d (mul_words m v) z q (product-number frame d a v q d5 d4 small words pointer) (some-same _ z e)
+  number-word binary.Mul z p l e = as-word choices (number_form_code binary.Mul frame d a v) d (mul_words m v) z q (product-word frame d a v q d5 d4 small words pointer) (some-same _ z e)
   number-word binary.Lsh z p l e = as-word choices (number_form_code binary.Lsh frame d a v) d (shifted_left m (v % 64)) z q (shift-number frame d a v q d5 d4 small words pointer Shli) (some-same _ z e)
   number-word binary.Rsh z p l e = as-word choices (number_form_code binary.Rsh frame d a v) d (shifted_right_signed m (v % 64)) z q (shift-number frame d a v q d5 d4 small words pointer Sari) (some-same _ z e)
   number-word binary.RshU z p l e = as-word choices (number_form_code binary.RshU frame d a v) d (shifted_right m (v % 64)) z q (shift-number frame d a v q d5 d4 small words pointer Shri) (some-same _ z e)
-  number-word binary.Div z p l e = let k = where-is (divides m v) (quotient_signed m v) z e in signed-number choices frame 0 d a v q d5 d4 small pointer l (quotient_signed m v) (remainder_signed m v) (signed-quotient m v (words a) small k.holds) z (λ high. k.is)
-  number-word binary.Rem z p l e = let k = where-is (divides m v) (remainder_signed m v) z e in signed-number choices frame 2 d a v q d5 d4 small pointer l (quotient_signed m v) (remainder_signed m v) (signed-quotient m v (words a) small k.holds) z (λ high. k.is)
-  number-word binary.DivU z p l e = let k = where-is (not (v == 0)) (quotient m v) z e in unsigned-number choices frame 0 d a v q d5 d4 small pointer l (quotient m v) (remainder m v) (unsigned-quotient m v k.holds) z (λ high. k.is)
-  number-word binary.RemU z p l e = let k = where-is (not (v == 0)) (remainder m v) z e in unsigned-number choices frame 2 d a v q d5 d4 small pointer l (quotient m v) (remainder m v) (unsigned-quotient m v k.holds) z (λ high. k.is)
+  number-word binary.Div z p l e = let k = where-is (divides m v) (quotient_signed m v) z e in signed-number choices frame 0 d a v q d5 d4 small pointer l (quotient_signed m v) (remainder_signed m v) (signed-quotient m v (words a) small k.holds) z (λ high. k.is) (λ high. k.is)
+  number-word binary.Rem z p l e = let k = where-is (divides m v) (remainder_signed m v) z e in signed-number choices frame 2 d a v q d5 d4 small pointer l (quotient_signed m v) (remainder_signed m v) (signed-quotient m v (words a) small k.holds) z (λ high. k.is) (λ high. k.is)
+  number-word binary.DivU z p l e = let k = where-is (not (v == 0)) (quotient m v) z e in unsigned-number choices frame 0 d a v q d5 d4 small pointer l (quotient m v) (remainder m v) (unsigned-quotient m v k.holds) z (λ high. k.is) (λ high. k.is)
+  number-word binary.RemU z p l e = let k = where-is (not (v == 0)) (remainder m v) z e in unsigned-number choices frame 2 d a v q d5 d4 small pointer l (quotient m v) (remainder m v) (unsigned-quotient m v k.holds) z (λ high. k.is) (λ high. k.is)
   number-word binary.Lt z p l e = answered cond.Less _ z (less-tells m v (words a) small) e
   number-word binary.LtU z p l e = answered cond.Below _ z (below-tells m v (words a) small) e
   number-word binary.Le z p l e = answered cond.LessOrEqual _ z (less-or-equal-tells m v (words a) small) e

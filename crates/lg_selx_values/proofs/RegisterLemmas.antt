@@ -1,5 +1,5 @@
 -- Registers by their numbers, and moves.
-use Rattle.std.proofs.Common.{◌≡◌, ◌≢◌, ℕ, ◌<◌, Bool, true, false, List, [], ◌∷◌, ◌++◌, Option, refl, sym, ap, ◌∙◌, arith}
+use Rattle.std.proofs.Common.{◌≡◌, ◌≢◌, ℕ, ◌<◌, Bool, true, false, List, [], ◌∷◌, ◌++◌, Option, Some, refl, sym, ap, ◌∙◌, arith}
 use Rattle.std.specs.Prelude.{◌==◌, if◌then◌else◌}
 use Rattle.lg_base.specs.declared.target.Target.TheVariants.{X86_64}
 use Rattle.lg_op.specs.declared.operand.Reg.{Reg}
@@ -54,6 +54,14 @@ moved-makes d a is w f bytes = by (d == a) refl
   where
     by : (b : Bool) → (d == a) ≡ b → makes ((if b then [] else RmReg Mov d a ∷ []) ++ is) (scene w f bytes) ≡ makes is (scene (put w d (w a)) f bytes)
     by true e = ap (λ g. makes is (scene g f bytes)) (sym (put-own w d (w a) (ap w (sym (equal d a e)))))
+    by false e = refl
+
+-- and a move behind code
+pub moved-last : (d a : ℕ) (w : ℕ → ℕ) (f : Flags) (bytes : ℕ → Option ℕ) → makes (moved d a) (scene w f bytes) ≡ Some (scene (put w d (w a)) f bytes)
+moved-last d a w f bytes = by (d == a) refl
+  where
+    by : (b : Bool) → (d == a) ≡ b → makes (if b then [] else RmReg Mov d a ∷ []) (scene w f bytes) ≡ Some (scene (put w d (w a)) f bytes)
+    by true e = ap (λ g. Some (scene g f bytes)) (sym (put-own w d (w a) (ap w (sym (equal d a e)))))
     by false e = refl
 
 -- ---- registers that stand for portable ones

@@ -1,5 +1,5 @@
 -- Nodes that compute values from registers are carried by their code.
-use Rattle.std.proofs.Common.{◌≡◌, ◌≢◌, ℕ, zero, suc, ◌<◌, ◌≤◌, Bool, true, false, List, [], ◌∷◌, ◌++◌, refl, sym, ap, ◌∙◌, subst, length, arith}
+use Rattle.std.proofs.Common.{◌≡◌, ◌≢◌, ℕ, zero, suc, ◌<◌, ◌≤◌, Bool, true, false, List, [], ◌∷◌, ◌++◌, refl, sym, ap, ◌∙◌, subst, length, arith, length-append}
 use Rattle.std.specs.Prelude.{◌==◌, ◌||◌, if◌then◌else◌}
 use Rattle.lg_base.specs.declared.target.Target.TheVariants.{X86_64}
 use Rattle.lg_op.specs.declared.op.Op.TheVariants as op
@@ -36,11 +36,11 @@ use Rattle.lg_selx_values.specs.Processor.X86Computers.{x86_scratch}
 use Rattle.lg_selx_values.specs.Processor.X86Rows.{x86_processor, x86_rows, can_save}
 use Rattle.lg_selx_values.proofs.OfProcessor.IsaLemmas.{is-isa}
 use Rattle.lg_selx_values.proofs.OfProcessor.MakingNodeLemmas.{making-nodes-compute}
-use Rattle.lg_selx_values.specs.BinaryCode.{register_code}
+use Rattle.lg_selx_values.specs.BinaryCode.{high_half, division, is_dividend, divided, register_code}
 use Rattle.lg_selx_values.specs.CarryCode.{carry_register_code}
 use Rattle.lg_selx_values.specs.Needs.{value_needs, spoils}
 use Rattle.lg_selx_values.specs.RegisterNodes.{IsChosen, binary_registers, BinaryRegistersCarry, FlagRegistersCarry}
-use Rattle.lg_selx_values.specs.Scratch.{moved}
+use Rattle.lg_selx_values.specs.Scratch.{moved, again}
 use Rattle.lg_selx_values.specs.WordLaws.{MakesWithCarry}
 use Rattle.lg_selx_values.proofs.BinaryCodeLemmas.{binaries-are-made}
 use Rattle.lg_selx_values.proofs.CarryCodeLemmas.{carried-are-made}
@@ -114,6 +114,14 @@ pub some-either : (b : Bool) (xs ys : List Instr) → 0 < length xs → 0 < leng
 some-either true xs ys h k = h
 some-either false xs ys h k = k
 
+divided-some : (signed : Bool) (frame r d a b : ℕ) → 0 < length (divided signed frame r d a b)
+divided-some signed frame r d a b =
+    let front : List Instr = moved 0 a ++ (high_half signed ∷ division signed b ∷ []) in
+    let some : 0 < length front = some-moved 0 a (high_half signed ∷ division signed b ∷ []) (omega arith) in
+    let all = length-append front (moved d r) in
+    some-either (is_dividend b) (RmReg Mov 2 b ∷ RmReg Mov 0 a ∷ RmReg Mov 5 2 ∷ high_half signed ∷ division signed 5 ∷ RmReg Mov d r ∷ again frame)
+    (front ++ moved d r) (omega arith) (omega (arith, some, all))
+
 code-some : (o : BinaryOp) (frame d a b : ℕ) → sets_carry o ≡ false → 0 < length (register_code o frame d a b)
 code-some binary.Add frame d a b p = some-either ((d == a) || (d == b)) _ _ (some-either (d == b) _ _ (omega arith) (some-moved d a _ (omega arith))) (omega arith)
 code-some binary.And frame d a b p = some-either (d == b) _ _ (omega arith) (some-moved d a _ (omega arith))
@@ -129,6 +137,10 @@ code-some binary.Subx frame d a b p = cc
 code-some binary.Lsh frame d a b p = omega arith
 code-some binary.Rsh frame d a b p = omega arith
 code-some binary.RshU frame d a b p = omega arith
+code-some binary.Div frame d a b p = divided-some true frame 0 d a b
+code-some binary.DivU frame d a b p = divided-some false frame 0 d a b
+code-some binary.Rem frame d a b p = divided-some true frame 2 d a b
+code-some binary.RemU frame d a b p = divided-some false frame 2 d a b
 code-some o frame d a b p = omega arith
 
 carried-some : (o : BinaryOp) (frame d a b : ℕ) → sets_carry o ≡ true → 0 < length (carry_register_code o frame d a b)

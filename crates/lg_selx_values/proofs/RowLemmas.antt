@@ -31,7 +31,7 @@ use Rattle.lg_selx_values.specs.Processor.Numbers.{number_row}
 use Rattle.lg_sel.specs.Holes.{Each}
 use Rattle.lg_sel.proofs.ListLemmas.{each-append}
 use Rattle.lg_selx_values.specs.GoodItems.{Fine}
-use Rattle.lg_selx_values.specs.BinaryCode.{ordered, commuting, added, difference, product, answer, compared, shifted, divided, cond_of, register_code, with_number, is_near, added_number, less_number, compared_number, shifted_number, divided_number, number_form_code}
+use Rattle.lg_selx_values.specs.BinaryCode.{ordered, commuting, added, difference, product, answer, compared, shifted, high_half, division, is_dividend, divided, cond_of, register_code, with_number, is_near, added_number, less_number, compared_number, shifted_number, divided_number, number_form_code}
 use Rattle.lg_selx_values.specs.CarryCode.{taken_away, carry_register_code, carry_number_code}
 use Rattle.lg_selx_values.specs.Scratch.{moved, again}
 use Rattle.lg_selx_values.specs.UnaryCode.{unary_code, retval_code}
@@ -103,6 +103,22 @@ module _ (frame : ℕ) (P : Instr → Type 0) (S : ℕ → Type 0) (h : HoldsOfR
       let kf = k.few in
       record { each = each-append P (moved d a) is m.each k.each; few = omega (arith, l, mf, kf) }
 
+  together : (m n : ℕ) (is js : List Instr) → Made m is → Made n js → Made (m + n) (is ++ js)
+  together m n is js j k =
+      let l = length-append is js in
+      let jf = j.few in
+      let kf = k.few in
+      record { each = each-append P is js j.each k.each; few = omega (arith, l, jf, kf) }
+
+  -- the halves of a dividend, and what divides
+  high-made : (signed : Bool) → P (high_half signed)
+  high-made true = h.sign
+  high-made false = h.zero
+
+  division-made : (signed : Bool) (b : ℕ) → Fine b → P (division signed b)
+  division-made true b fb = h.one row.Idiv b fb
+  division-made false b fb = h.one row.Div b fb
+
   first : (n : ℕ) (i : Instr) (is : List Instr) → P i → Made n is → Made (1 + n) (i ∷ is)
   first n i is p k = let f = k.few in record { each = (p, k.each); few = omega (arith, f) }
 
@@ -136,14 +152,17 @@ module _ (frame : ℕ) (P : Instr → Type 0) (S : ℕ → Type 0) (h : HoldsOfR
         first 2 (RmReg alu.Mov 1 b) (moved d a ++ Unary op d ∷ []) (h.two alu.Mov 1 b rcx-fine fb.0) (behind 1 d a (Unary op d ∷ []) fd fa.0 record { each = (h.one op d fd, tt); few = omega arith })
 
     divided-made : (signed : Bool) (r : ℕ) → r < 16 → Made 7 (divided signed frame r d a b)
-    divided-made true r fr = record {
-      each = (h.two alu.Mov 2 b rdx-fine fb.0, (h.two alu.Mov 0 a rax-fine fa.0, (h.two alu.Mov 5 2 rbp-fine (omega arith), (h.sign, (h.one row.Idiv 5 rbp-fine, (h.two alu.Mov d r fd fr, (h.again, tt)))))));
-      few = omega arith;
-    }
-    divided-made false r fr = record {
-      each = (h.two alu.Mov 2 b rdx-fine fb.0, (h.two alu.Mov 0 a rax-fine fa.0, (h.two alu.Mov 5 2 rbp-fine (omega arith), (h.zero, (h.one row.Div 5 rbp-fine, (h.two alu.Mov d r fd fr, (h.again, tt)))))));
-      few = omega arith;
-    }
+    divided-made signed r fr =
+        either 7 (is_dividend b) (RmReg alu.Mov 2 b ∷ RmReg alu.Mov 0 a ∷ RmReg alu.Mov 5 2 ∷ high_half signed ∷ division signed 5 ∷ RmReg alu.Mov d r ∷ again frame)
+        ((moved 0 a ++ (high_half signed ∷ division signed b ∷ [])) ++ moved d r)
+        record {
+          each = (h.two alu.Mov 2 b rdx-fine fb.0, (h.two alu.Mov 0 a rax-fine fa.0, (h.two alu.Mov 5 2 rbp-fine (omega arith), (high-made signed, (division-made signed 5 rbp-fine, (h.two alu.Mov d r fd fr, (h.again, tt)))))));
+          few = omega arith;
+        }
+        (wider 4 7 ((moved 0 a ++ (high_half signed ∷ division signed b ∷ [])) ++ moved d r) (omega arith)
+        (together 3 1 (moved 0 a ++ (high_half signed ∷ division signed b ∷ [])) (moved d r)
+        (behind 2 0 a (high_half signed ∷ division signed b ∷ []) rax-fine fa.0 record { each = (high-made signed, (division-made signed b fb, tt)); few = omega arith })
+        (move d r fd fr)))
 
     taken-made : (op : RmRegOp) → Made 4 (taken_away op frame d a b)
     taken-made op =
@@ -205,18 +224,20 @@ module _ (frame : ℕ) (P : Instr → Type 0) (S : ℕ → Type 0) (h : HoldsOfR
     shifted-number-made op = wider 2 6 (shifted_number op d a v) (omega arith) (behind 1 d a (Shift op d (v % 64) ∷ []) fd fa.0 record { each = (h.shift op d (v % 64) fd (omega arith), tt); few = omega arith })
 
     divided-number-made : (signed : Bool) (r : ℕ) → r < 16 → Made 6 (divided_number signed frame r d a v)
-    divided-number-made true r fr = record {
-      each = (h.two alu.Mov 0 a rax-fine fa.0, (h.number 5 v rbp-fine small, (h.sign, (h.one row.Idiv 5 rbp-fine, (h.two alu.Mov d r fd fr, (h.again, tt))))));
-      few = omega arith;
-    }
-    divided-number-made false r fr = record {
-      each = (h.two alu.Mov 0 a rax-fine fa.0, (h.number 5 v rbp-fine small, (h.zero, (h.one row.Div 5 rbp-fine, (h.two alu.Mov d r fd fr, (h.again, tt))))));
-      few = omega arith;
-    }
+    divided-number-made signed r fr =
+        either 6 (is_dividend d) (moved 0 a ++ (number_row 5 v ∷ high_half signed ∷ division signed 5 ∷ RmReg alu.Mov d r ∷ again frame))
+        (moved 0 a ++ (number_row d v ∷ high_half signed ∷ division signed d ∷ RmReg alu.Mov d r ∷ []))
+        (behind 5 0 a (number_row 5 v ∷ high_half signed ∷ division signed 5 ∷ RmReg alu.Mov d r ∷ again frame) rax-fine fa.0
+        record { each = (h.number 5 v rbp-fine small, (high-made signed, (division-made signed 5 rbp-fine, (h.two alu.Mov d r fd fr, (h.again, tt))))); few = omega arith })
+        (wider 5 6 (moved 0 a ++ (number_row d v ∷ high_half signed ∷ division signed d ∷ RmReg alu.Mov d r ∷ [])) (omega arith)
+        (behind 4 0 a (number_row d v ∷ high_half signed ∷ division signed d ∷ RmReg alu.Mov d r ∷ []) rax-fine fa.0
+        record { each = (h.number d v fd small, (high-made signed, (division-made signed d fd, (h.two alu.Mov d r fd fr, tt)))); few = omega arith }))
 
     product-number-made : Made 6 (number_form_code binary.Mul frame d a v)
     product-number-made =
-        wider 4 6 _ (omega arith) (behind 3 d a (number_row 5 v ∷ (RegRm ext.Imul d 5 ∷ again frame)) fd fa.0 record { each = (h.number 5 v rbp-fine small, (h.ext ext.Imul d 5 fd (omega arith), (h.again, tt))); few = omega arith })
+        either 6 (d == a) (number_row 5 v ∷ RegRm ext.Imul d 5 ∷ again frame) (number_row d v ∷ RegRm ext.Imul d a ∷ [])
+        record { each = (h.number 5 v rbp-fine small, (h.ext ext.Imul d 5 fd (omega arith), (h.again, tt))); few = omega arith }
+        record { each = (h.number d v fd small, (h.ext ext.Imul d a fd fa.0, tt)); few = omega arith }
 
     carried-number-made : (o : BinaryOp) → Made 6 (carry_number_code o frame d a v)
     carried-number-made binary.Addc = wider 4 6 (with_number imm.Addi alu.Add frame d a v) (omega arith) (number-made imm.Addi alu.Add)

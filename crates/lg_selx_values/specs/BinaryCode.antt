@@ -50,10 +50,26 @@ compared c d a b = RmReg alu.Cmp a b ∷ answer c d
 abbrev pub shifted : UnaryOp → ℕ → ℕ → ℕ → List Instr
 shifted op d a b = RmReg alu.Mov 1 b ∷ moved d a ++ Unary op d ∷ []
 
--- the divisor goes to rbp by way of rdx, 2, and the dividend to rax, 0; the result is then in rax or rdx, r
+-- the high half of a dividend goes to rdx, 2: the sign of rax, 0, or 0
+abbrev pub high_half : Bool → Instr
+high_half true = Bare Cqo
+high_half false = Movi32 2 0
+
+-- rdx and rax are divided by a register
+abbrev pub division : Bool → ℕ → Instr
+division true b = Unary Idiv b
+division false b = Unary Div b
+
+-- rax and rdx, which a division takes
+abbrev pub is_dividend : ℕ → Bool
+is_dividend r = (r == 0) || (r == 2)
+
+-- the dividend goes to rax, and the result is then in rax or rdx, r; a divisor in one of these goes to rbp, by way of rdx
 abbrev pub divided : Bool → ℕ → ℕ → ℕ → ℕ → ℕ → List Instr
-divided true frame r d a b = RmReg alu.Mov 2 b ∷ RmReg alu.Mov 0 a ∷ RmReg alu.Mov 5 2 ∷ Bare Cqo ∷ Unary Idiv 5 ∷ RmReg alu.Mov d r ∷ again frame
-divided false frame r d a b = RmReg alu.Mov 2 b ∷ RmReg alu.Mov 0 a ∷ RmReg alu.Mov 5 2 ∷ Movi32 2 0 ∷ Unary Div 5 ∷ RmReg alu.Mov d r ∷ again frame
+divided signed frame r d a b =
+    if is_dividend b
+    then RmReg alu.Mov 2 b ∷ RmReg alu.Mov 0 a ∷ RmReg alu.Mov 5 2 ∷ high_half signed ∷ division signed 5 ∷ RmReg alu.Mov d r ∷ again frame
+    else (moved 0 a ++ (high_half signed ∷ division signed b ∷ [])) ++ moved d r
 
 -- the condition of a comparison
 abbrev pub cond_of : BinaryOp → Cond
@@ -107,18 +123,25 @@ compared_number c frame d a v =
     if is_half v then Imm imm.Cmpi a (signed_view v) ∷ answer c d
     else moved d a ++ (number_row 5 v ∷ (RmReg alu.Cmp d 5 ∷ Set c d ∷ RegRm Ext8u d d ∷ again frame))
 
+-- d = a * v: the number goes to d, or to rbp where that is a
+abbrev pub product_number : ℕ → ℕ → ℕ → ℕ → List Instr
+product_number frame d a v =
+    if d == a then number_row 5 v ∷ RegRm Imul d 5 ∷ again frame else number_row d v ∷ RegRm Imul d a ∷ []
+
 abbrev pub shifted_number : ShiftOp → ℕ → ℕ → ℕ → List Instr
 shifted_number op d a v = moved d a ++ Shift op d (v % 64) ∷ []
 
+-- the number goes to the result's register, or to rbp where that is rax or rdx
 abbrev pub divided_number : Bool → ℕ → ℕ → ℕ → ℕ → ℕ → List Instr
-divided_number true frame r d a v = RmReg alu.Mov 0 a ∷ (number_row 5 v ∷ (Bare Cqo ∷ Unary Idiv 5 ∷ RmReg alu.Mov d r ∷ again frame))
-divided_number false frame r d a v = RmReg alu.Mov 0 a ∷ (number_row 5 v ∷ (Movi32 2 0 ∷ Unary Div 5 ∷ RmReg alu.Mov d r ∷ again frame))
+divided_number signed frame r d a v =
+    if is_dividend d then moved 0 a ++ (number_row 5 v ∷ high_half signed ∷ division signed 5 ∷ RmReg alu.Mov d r ∷ again frame)
+    else moved 0 a ++ (number_row d v ∷ high_half signed ∷ division signed d ∷ RmReg alu.Mov d r ∷ [])
 
 abbrev pub number_form_code : BinaryOp → ℕ → ℕ → ℕ → ℕ → List Instr
 number_form_code binary.Add frame d a v = added_number frame d a v
 number_form_code binary.Sub frame d a v = less_number frame d a v
 number_form_code binary.Rsb frame d a v = moved d a ++ (Unary Neg d ∷ with_number imm.Addi alu.Add frame d d v)
-number_form_code binary.Mul frame d a v = moved d a ++ (number_row 5 v ∷ (RegRm Imul d 5 ∷ again frame))
+number_form_code binary.Mul frame d a v = product_number frame d a v
 number_form_code binary.And frame d a v = with_number imm.Andi alu.And frame d a v
 number_form_code binary.Or frame d a v = with_number imm.Ori alu.Or frame d a v
 number_form_code binary.Xor frame d a v = with_number imm.Xori alu.Xor frame d a v

@@ -2,7 +2,7 @@
 
 ghost use Rattle.std.specs.Prelude.{◌≡◌, ◌+◌, ◌≤◌, ◌++◌, ◌∷◌, true, false};
 ghost use Rattle.lg_selx_values.specs.Items.{ones, words_in};
-ghost use Rattle.lg_selx_values.specs.BinaryCode.{ordered, commuting, added, difference, product, compared, shifted, divided, cond_of, register_code, with_number, is_near, added_number, less_number, compared_number, shifted_number, divided_number, number_form_code};
+ghost use Rattle.lg_selx_values.specs.BinaryCode.{ordered, commuting, added, difference, product, compared, shifted, high_half, division, is_dividend, divided, cond_of, register_code, with_number, is_near, added_number, less_number, compared_number, product_number, shifted_number, divided_number, number_form_code};
 
 use crate::moves::{
     RAX, RCX, RDX, SCRATCH, again, behind_move, behind_number, ext, imm, moved, one, sign,
@@ -106,40 +106,62 @@ fn shifted(op: UnaryOp, d: u8, a: u8, b: u8, items: &mut Items<Item>)
     behind_move(d, a, &[one(op, d)], items);
 }
 
-// Appends the code of a quotient of signed words or its remainder, which is in `r`: 7 instructions, for which there is room.
-fn divided_signed(frame: u32, r: u8, d: u8, a: u8, b: u8, items: &mut Items<Item>)
-    requires low { 272 ≤ frame }
-    requires high { frame ≤ 65808 }
-    requires room { words_in items.old + 7 ≤ 64 }
-    ensures { items.new ≡ items.old ++ ones (divided true frame r d a b) }
+// The high half of a dividend: the sign of rax, or 0.
+fn high_half(signed: bool) -> Instr
+    ensures { result ≡ high_half signed }
 {
-    items.all(&[
-        mov(RDX, b),
-        mov(RAX, a),
-        mov(SCRATCH, RDX),
-        sign(),
-        one(UnaryOp::Idiv, SCRATCH),
-        mov(d, r),
-        again(frame),
-    ]);
+    if signed {
+        sign()
+    } else {
+        Instr::Movi32 { reg: RDX, imm: 0 }
+    }
 }
 
-// Appends that of a quotient of words, or its remainder: 7 instructions, for which there is room.
-fn divided_unsigned(frame: u32, r: u8, d: u8, a: u8, b: u8, items: &mut Items<Item>)
+// A division by a register.
+fn division(signed: bool, b: u8) -> Instr
+    ensures { result ≡ division signed b }
+{
+    if signed {
+        one(UnaryOp::Idiv, b)
+    } else {
+        one(UnaryOp::Div, b)
+    }
+}
+
+// Whether a register is rax or rdx, which a division takes.
+fn is_dividend(r: u8) -> bool
+    ensures { result ≡ is_dividend r }
+{
+    r == RAX || r == RDX
+}
+
+// Appends the code of a quotient or its remainder, which is in `r`: at most 7 instructions, for which there is room.
+#[tactic(auto, using(crate::proofs::EmissionLemmas::ones_twice, crate::proofs::EmissionLemmas::behind_words))]
+fn divided(signed: bool, frame: u32, r: u8, d: u8, a: u8, b: u8, items: &mut Items<Item>)
     requires low { 272 ≤ frame }
     requires high { frame ≤ 65808 }
     requires room { words_in items.old + 7 ≤ 64 }
-    ensures { items.new ≡ items.old ++ ones (divided false frame r d a b) }
+    ensures { items.new ≡ items.old ++ ones (divided signed frame r d a b) }
 {
-    items.all(&[
-        mov(RDX, b),
-        mov(RAX, a),
-        mov(SCRATCH, RDX),
-        Instr::Movi32 { reg: RDX, imm: 0 },
-        one(UnaryOp::Div, SCRATCH),
-        mov(d, r),
-        again(frame),
-    ]);
+    if is_dividend(b) {
+        items.all(&[
+            mov(RDX, b),
+            mov(RAX, a),
+            mov(SCRATCH, RDX),
+            high_half(signed),
+            division(signed, SCRATCH),
+            mov(d, r),
+            again(frame),
+        ]);
+    } else {
+        behind_move(
+            RAX,
+            a,
+            &[high_half(signed), division(signed, b)],
+            items,
+        );
+        moved(d, r, items);
+    }
 }
 
 // The condition of a comparison; of an operation that is none it is that of `ne`.
@@ -178,10 +200,10 @@ pub(crate) fn register_code(op: BinaryOp, frame: u32, d: u8, a: u8, b: u8, items
         BinaryOp::Lsh => shifted(UnaryOp::Shl, d, a, b, items),
         BinaryOp::Rsh => shifted(UnaryOp::Sar, d, a, b, items),
         BinaryOp::RshU => shifted(UnaryOp::Shr, d, a, b, items),
-        BinaryOp::Div => divided_signed(frame, RAX, d, a, b, items),
-        BinaryOp::DivU => divided_unsigned(frame, RAX, d, a, b, items),
-        BinaryOp::Rem => divided_signed(frame, RDX, d, a, b, items),
-        BinaryOp::RemU => divided_unsigned(frame, RDX, d, a, b, items),
+        BinaryOp::Div => divided(true, frame, RAX, d, a, b, items),
+        BinaryOp::DivU => divided(false, frame, RAX, d, a, b, items),
+        BinaryOp::Rem => divided(true, frame, RDX, d, a, b, items),
+        BinaryOp::RemU => divided(false, frame, RDX, d, a, b, items),
         _ => compared(cond_of(op), d, a, b, items),
     }
 }
@@ -282,41 +304,35 @@ fn shifted_number(op: ShiftOp, d: u8, a: u8, value: u64, items: &mut Items<Item>
     behind_move(d, a, &[shift], items);
 }
 
-// Appends the code of a quotient of signed words by a number or its remainder, which is in `r`: 6 instructions, for which there is room.
-#[tactic(auto, using(crate::proofs::EmissionLemmas::ones_after, crate::proofs::EmissionLemmas::one_words))]
-fn divided_signed_number(frame: u32, r: u8, d: u8, a: u8, value: u64, items: &mut Items<Item>)
+// Appends the code of a quotient by a number or its remainder, which is in `r`: at most 6 instructions, for which there is room.
+#[tactic(auto, using(crate::proofs::EmissionLemmas::ones_twice, crate::proofs::EmissionLemmas::moved_words))]
+fn divided_number(
+    signed: bool,
+    frame: u32,
+    r: u8,
+    d: u8,
+    a: u8,
+    value: u64,
+    items: &mut Items<Item>,
+)
     requires low { 272 ≤ frame }
     requires high { frame ≤ 65808 }
     requires room { words_in items.old + 6 ≤ 64 }
-    ensures { items.new ≡ items.old ++ ones (divided_number true frame r d a value) }
+    ensures { items.new ≡ items.old ++ ones (divided_number signed frame r d a value) }
 {
-    items.one(mov(RAX, a));
-    let divide = one(UnaryOp::Idiv, SCRATCH);
-    behind_number(
-        SCRATCH,
-        value,
-        &[sign(), divide, mov(d, r), again(frame)],
-        items,
-    );
-}
-
-// Appends that of a quotient of words by a number, or its remainder: 6 instructions, for which there is room.
-#[tactic(auto, using(crate::proofs::EmissionLemmas::ones_after, crate::proofs::EmissionLemmas::one_words))]
-fn divided_unsigned_number(frame: u32, r: u8, d: u8, a: u8, value: u64, items: &mut Items<Item>)
-    requires low { 272 ≤ frame }
-    requires high { frame ≤ 65808 }
-    requires room { words_in items.old + 6 ≤ 64 }
-    ensures { items.new ≡ items.old ++ ones (divided_number false frame r d a value) }
-{
-    items.one(mov(RAX, a));
-    let high = Instr::Movi32 { reg: RDX, imm: 0 };
-    let divide = one(UnaryOp::Div, SCRATCH);
-    behind_number(
-        SCRATCH,
-        value,
-        &[high, divide, mov(d, r), again(frame)],
-        items,
-    );
+    moved(RAX, a, items);
+    let high = high_half(signed);
+    if is_dividend(d) {
+        let divide = division(signed, SCRATCH);
+        behind_number(
+            SCRATCH,
+            value,
+            &[high, divide, mov(d, r), again(frame)],
+            items,
+        );
+    } else {
+        behind_number(d, value, &[high, division(signed, d), mov(d, r)], items);
+    }
 }
 
 // Appends the code that turns `d` and adds a number: at most 5 instructions, for which there is room.
@@ -343,21 +359,23 @@ fn taken_from(frame: u32, d: u8, a: u8, value: u64, items: &mut Items<Item>)
     turned_number(frame, d, value, items);
 }
 
-// Appends the code of `d = a * value`: at most 4 instructions, for which there is room.
-#[tactic(auto, using(crate::proofs::EmissionLemmas::ones_twice, crate::proofs::EmissionLemmas::moved_words))]
+// Appends the code of `d = a * value`: at most 3 instructions, for which there is room.
 fn product_number(frame: u32, d: u8, a: u8, value: u64, items: &mut Items<Item>)
     requires low { 272 ≤ frame }
     requires high { frame ≤ 65808 }
-    requires room { words_in items.old + 4 ≤ 64 }
-    ensures { items.new ≡ items.old ++ ones (number_form_code (BinaryOp.Mul) frame d a value) }
+    requires room { words_in items.old + 3 ≤ 64 }
+    ensures { items.new ≡ items.old ++ ones (product_number frame d a value) }
 {
-    moved(d, a, items);
-    behind_number(
-        SCRATCH,
-        value,
-        &[ext(RegRmOp::Imul, d, SCRATCH), again(frame)],
-        items,
-    );
+    if d == a {
+        behind_number(
+            SCRATCH,
+            value,
+            &[ext(RegRmOp::Imul, d, SCRATCH), again(frame)],
+            items,
+        );
+    } else {
+        behind_number(d, value, &[ext(RegRmOp::Imul, d, a)], items);
+    }
 }
 
 /// Appends the code of `d = a op value`: at most 6 instructions, for which there is room.
@@ -385,10 +403,10 @@ pub(crate) fn number_form_code(
         BinaryOp::Lsh => shifted_number(ShiftOp::Shli, d, a, value, items),
         BinaryOp::Rsh => shifted_number(ShiftOp::Sari, d, a, value, items),
         BinaryOp::RshU => shifted_number(ShiftOp::Shri, d, a, value, items),
-        BinaryOp::Div => divided_signed_number(frame, RAX, d, a, value, items),
-        BinaryOp::DivU => divided_unsigned_number(frame, RAX, d, a, value, items),
-        BinaryOp::Rem => divided_signed_number(frame, RDX, d, a, value, items),
-        BinaryOp::RemU => divided_unsigned_number(frame, RDX, d, a, value, items),
+        BinaryOp::Div => divided_number(true, frame, RAX, d, a, value, items),
+        BinaryOp::DivU => divided_number(false, frame, RAX, d, a, value, items),
+        BinaryOp::Rem => divided_number(true, frame, RDX, d, a, value, items),
+        BinaryOp::RemU => divided_number(false, frame, RDX, d, a, value, items),
         _ => compared_number(cond_of(op), frame, d, a, value, items),
     }
 }

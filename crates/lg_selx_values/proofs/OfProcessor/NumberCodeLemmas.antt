@@ -42,6 +42,15 @@ choice r v false i j h k = k refl
 low-number : (v : ℕ) → nat_lt v (2 ^ 32) ≡ true → v < 2 ^ 32
 low-number v e = grind (arith, e)
 
+-- whatever the number of the register is
+pub row-value : (r v : ℕ) → v < 2 ^ 64 → (s : Scene) → made (number_row r v) s ≡ Some (with_register s r v s.flags)
+row-value r v small s = by (nat_lt v (2 ^ 32)) (is_half v)
+  where
+    by : (b h : Bool) → made (if b then Movi32 r v else if h then Movs32 r (signed_view v) else Movi64 r v) s ≡ Some (with_register s r v s.flags)
+    by true h = refl
+    by false true = ap (λ x. Some (with_register s r x s.flags)) (view-word v small)
+    by false false = refl
+
 pub row-loads : (r v : ℕ) → r < 16 → v < 2 ^ 64 → Loads r v (number_row r v)
 row-loads r v few small =
     choice r v (nat_lt v (2 ^ 32)) (Movi32 r v) (if is_half v then Movs32 r (signed_view v) else Movi64 r v)
