@@ -154,12 +154,7 @@ fn divided(signed: bool, frame: u32, r: u8, d: u8, a: u8, b: u8, items: &mut Ite
             again(frame),
         ]);
     } else {
-        behind_move(
-            RAX,
-            a,
-            &[high_half(signed), division(signed, b)],
-            items,
-        );
+        behind_move(RAX, a, &[high_half(signed), division(signed, b)], items);
         moved(d, r, items);
     }
 }
