@@ -1,10 +1,10 @@
 // The operands of instructions, by the token at an operand's place and the form that the place asks.
 
-ghost use Rattle.std.specs.Prelude.{◌≡◌, ◌≤◌, true, IfOk};
+ghost use Rattle.std.specs.Prelude.{◌≡◌, ◌≤◌, drop, true, IfOk};
 ghost use Rattle.lg_op.specs.Forms.{admits};
-ghost use Rattle.lg_tst.specs.Operands.{admitted, register_operand, register_at, host_operand, argument_named, local_named, differ, stays_apart, local_size, misfit};
+ghost use Rattle.lg_operand.specs.Operands.{admitted, register_operand, register_at, host_operand, argument_named, local_named, differ, stays_apart, local_size, misfit};
 
-use crate::words::{behind_mark, is_float_register, register_of, register_word};
+use crate::registers::{is_float_register, register_of, register_word};
 use lg_base::{HostName, RefusalKind};
 use lg_lex::TokenKind;
 use lg_op::{Form, Op, Operand, PlainOp};
@@ -97,6 +97,16 @@ pub fn local_size(done: &[Operand]) -> u64
     match done {
         [Operand::Number(size)] => (*size).min(65_536),
         _ => 0,
+    }
+}
+
+/// A text behind its mark, which is its first byte.
+pub fn behind_mark(text: &[u8]) -> &[u8]
+    ensures { result.now ≡ drop 1 text.now }
+{
+    match text {
+        [_, rest @ ..] => rest,
+        [] => text,
     }
 }
 
