@@ -10,7 +10,7 @@ use Rattle.lg_meaning.specs.Reasons.{item_of}
 use Rattle.lg_meaning.specs.declared.reason.Reason.{Reason}
 use Rattle.lg_meaning.specs.declared.reason.Reason.TheVariants.{Unset, NoCarry, NoQuotient, Outside, Unwritten, NoLabel, NoFunction, NoRoom, NoResult, NoArgument, NotAllowed, NoVariable}
 use Rattle.lg_op.specs.declared.operand.Reg.{Reg}
-use Rattle.lg_tst.specs.Words.{register_word}
+use Rattle.lg_operand.specs.Registers.{register_word}
 use Rattle.lg_explain.specs.Lines.{line_in, shown}
 use Rattle.lg_explain.specs.declared.stop.StuckAt.{StuckAt}
 

@@ -4,7 +4,7 @@ ghost use Rattle.std.specs.Prelude.{◌≡◌};
 ghost use Rattle.lg_explain.specs.Sentences.{item_words, reason_line, refusal_lines, register_part, register_parts, registers_line, said_line, sentence_line, sentence_of, step_lines, stuck_lines, text_line, where_words, word_line, words_of, words_of_two};
 ghost use Rattle.lg_io.specs.Radixes.{digits_in};
 ghost use Rattle.lg_io.specs.SinkChanges.{WroteTo, on_sink};
-ghost use Rattle.lg_tst.specs.Words.{register_word};
+ghost use Rattle.lg_operand.specs.Registers.{register_word};
 
 use crate::line::{Shown, line_in};
 use crate::stop::StuckAt;

@@ -1,24 +1,24 @@
 -- What an expansion has given stays.
 use Rattle.std.proofs.Common.{◌≡◌, ℕ, zero, suc, ◌+◌, nat_le, nat_lt, true, false, List, [], ◌∷◌, ◌++◌, length, drop, refl, sym, ap, subst, ◌∙◌, append_assoc, append-nil, Option, Some, None, Result, Ok, IfOk}
 use Rattle.std.proofs.lemmas.Result.{IfOk-weaker}
-use Rattle.lg_pre.specs.Arguments.{stripped}
+use Rattle.lg_macro.specs.Arguments.{stripped}
 use Rattle.lg_pre.specs.Conditions.{is_full, innermost, skipping, skipped, opens, turns_at, closes_at}
 use Rattle.lg_pre.specs.Directive.{directive_of}
-use Rattle.lg_pre.specs.Defines.{spliced}
+use Rattle.lg_macro.specs.Defines.{spliced}
 use Rattle.lg_pre.specs.Expanded.{defines, undefines, opens_named, opens_if, read, obeys, with_table, with_conditions, flushes, directed, directs, one_line_by, one_line, ended, finishes, lines_in}
-use Rattle.lg_pre.specs.Expansion.{step, expand_in}
-use Rattle.lg_pre.specs.Given.{gives_text, gives, given_all, flushed, fed, feeds_in}
+use Rattle.lg_replacement.specs.Expansion.{step, expand_in}
+use Rattle.lg_pre.specs.Given.{gives_text, gives, given_all, flushed, fed}
 use Rattle.lg_pre.specs.Lines.{BeginsWith, GivenBytesStay}
 use Rattle.lg_base.specs.Refusals.{◌>>=◌}
-use Rattle.lg_pre.specs.Macros.{most}
-use Rattle.lg_pre.specs.Pieces.{Piece, piece_at, between}
+use Rattle.lg_macro.specs.Macros.{most}
+use Rattle.lg_macro.specs.Pieces.{Piece, piece_at, between}
 use Rattle.lg_pre.specs.Questions.{asks}
-use Rattle.lg_pre.specs.Text.{line_len, mark_in}
+use Rattle.lg_macro.specs.Text.{feeds_in, line_len, mark_in}
 use Rattle.lg_pre.specs.declared.conditions.Condition.{Condition}
 use Rattle.lg_pre.specs.declared.directive.Directive.{Directive}
 use Rattle.lg_pre.specs.declared.directive.Directive.TheVariants.{Nothing, Define, Undefine, IfDefined, If, Else, EndIf, Unknown}
 use Rattle.lg_pre.specs.declared.expander.Expander.{Expander}
-use Rattle.lg_pre.specs.declared.macros.Macro.{Macro}
+use Rattle.lg_macro.specs.declared.macros.Macro.{Macro}
 use Rattle.lg_base.specs.declared.refusal.Refusal.{Refusal}
 use Rattle.lg_pre.proofs.LineLaws.{if_bound, either_ok, any_result}
 

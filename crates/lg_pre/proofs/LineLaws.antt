@@ -6,32 +6,32 @@ use Rattle.std.proofs.lemmas.List.{drop_all}
 use Rattle.std.proofs.lemmas.Result.{IfOk-weaker}
 use Rattle.std.specs.List.{list_any}
 use Rattle.lg_base.specs.declared.refusal.Refusal.{Refusal}
-use Rattle.lg_pre.specs.Arguments.{opening, closing, arguments_of, stripped, with_feeds, solid_len}
+use Rattle.lg_macro.specs.Arguments.{opening, closing, arguments_of, stripped, with_feeds, solid_len}
 use Rattle.lg_pre.specs.Conditions.{is_full, innermost, skipping, skipped, opens, turns_at, closes_at}
-use Rattle.lg_pre.specs.Cutting.{cut, cut_in, front_of}
-use Rattle.lg_pre.specs.Defines.{spliced, one_word, written, written_by, named_by, closed_at, with_body, with_parameters, body_of, with_piece, no_body, at_sign, at_white, at_solid, size_of, to_close, parameters_of}
+use Rattle.lg_macro.specs.Cutting.{cut, cut_in, front_of}
+use Rattle.lg_macro.specs.Defines.{spliced, one_word, written, written_by, named_by, closed_at, with_body, with_parameters, body_of, with_piece, no_body, at_sign, at_white, at_solid, size_of, to_close, parameters_of}
 use Rattle.lg_pre.specs.Directive.{directive_of}
 use Rattle.lg_pre.specs.Expanded.{defines, undefines, opens_named, opens_if, read, obeys, with_table, with_conditions, flushes, directed, directs, one_line_by, one_line, ended, finishes, lines_in, start, start_table, expanded}
-use Rattle.lg_pre.specs.Expansion.{Given, Step, kept, named, put, put_name, object, each, put_full, replaced, called, closed, opened, by_arity, at_macro, at_name, step, walk, expand_in}
-use Rattle.lg_pre.specs.Expansion.{Expander as Replacer}
-use Rattle.lg_pre.specs.Given.{gives_text, gives, given_all, flushed, fed, feeds_in}
+use Rattle.lg_replacement.specs.Expansion.{Given, Step, kept, named, put, put_name, object, each, put_full, replaced, called, closed, opened, by_arity, at_macro, at_name, step, walk, expand_in}
+use Rattle.lg_replacement.specs.Expansion.{Expander as Replacer}
+use Rattle.lg_pre.specs.Given.{gives_text, gives, given_all, flushed, fed}
 use Rattle.lg_pre.specs.Lines.{LineFeedsAreKept, HaveLines}
 use Rattle.lg_base.specs.Refusals.{◌>>=◌}
-use Rattle.lg_pre.specs.Macros.{most, place_in, without, without_at, with_macro, counted}
-use Rattle.lg_pre.specs.Pieces.{Piece, piece_at, between, froze, is_word, is_white, is_byte, is_spaced}
+use Rattle.lg_macro.specs.Macros.{most, place_in, without, without_at, with_macro, counted}
+use Rattle.lg_macro.specs.Pieces.{Piece, piece_at, between, froze, is_word, is_white, is_byte, is_spaced}
 use Rattle.lg_pre.specs.Questions.{sure, asks}
-use Rattle.lg_pre.specs.Substitution.{substituted}
-use Rattle.lg_pre.specs.Text.{text_pieces, line_len, mark_in, feeds_of, bytes_of, ends_with_slash}
-use Rattle.lg_pre.specs.declared.body.Body.{Body}
+use Rattle.lg_macro.specs.Substitution.{substituted}
+use Rattle.lg_macro.specs.Text.{feeds_in, text_pieces, line_len, mark_in, feeds_of, bytes_of, ends_with_slash}
+use Rattle.lg_macro.specs.declared.body.Body.{Body}
 use Rattle.lg_pre.specs.declared.conditions.Condition.{Condition}
 use Rattle.lg_pre.specs.declared.directive.Directive.{Directive}
 use Rattle.lg_pre.specs.declared.directive.Directive.TheVariants.{Nothing, Define, Undefine, IfDefined, If, Else, EndIf, Unknown}
 use Rattle.lg_pre.specs.declared.expander.Expander.{Expander}
-use Rattle.lg_pre.specs.declared.macros.Macro.{Macro}
-use Rattle.lg_pre.specs.declared.pieces.PieceKind.{PieceKind}
-use Rattle.lg_pre.specs.declared.pieces.PieceKind.TheVariants.{Comment, Quoted, Word, Number, Feed, Byte}
+use Rattle.lg_macro.specs.declared.macros.Macro.{Macro}
+use Rattle.lg_macro.specs.declared.pieces.PieceKind.{PieceKind}
+use Rattle.lg_macro.specs.declared.pieces.PieceKind.TheVariants.{Comment, Quoted, Word, Number, Feed, Byte}
 use Rattle.lg_pre.proofs.PlainLemmas.{pieces_are_text}
-use Rattle.lg_pre.proofs.FeedLemmas.{feeds_among, feeds_among_all, AreTidy, AreQuiet, feeds_append, among_append, among_parts, among_between, among_bytes, all_push, tidy_append, tidy_drop, tidy_take, quiet_tidy, substituted_quiet, with_feeds_among, stripped_few, arguments_quiet, spliced_quiet, feeds_in_all, text_tidy}
+use Rattle.lg_macro.proofs.FeedLemmas.{feeds_among, feeds_among_all, AreTidy, AreQuiet, feeds_append, among_append, among_parts, among_between, among_bytes, all_push, tidy_append, tidy_drop, tidy_take, quiet_tidy, substituted_quiet, with_feeds_among, stripped_few, arguments_quiet, spliced_quiet, feeds_in_all, text_tidy}
 
 -- ---- results
 

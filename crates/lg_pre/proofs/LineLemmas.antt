@@ -3,16 +3,17 @@ use Rattle.std.proofs.Common.{◌≡◌, ℕ, zero, suc, ◌+◌, ◌-◌, ◌<�
 use Rattle.std.proofs.lemmas.Bool.Decides.{nat_tests}
 use Rattle.std.proofs.lemmas.List.{take_all}
 use Rattle.std.proofs.Common.{Option, None, Some, codes}
-use Rattle.lg_pre.specs.Cutting.{cut}
-use Rattle.lg_pre.specs.Defines.{written}
-use Rattle.lg_pre.specs.Macros.{with_macro}
-use Rattle.lg_pre.specs.declared.macros.Macro.{Macro}
+use Rattle.lg_macro.specs.Cutting.{cut}
+use Rattle.lg_macro.specs.Defines.{written}
+use Rattle.lg_macro.specs.Macros.{with_macro}
+use Rattle.lg_macro.specs.declared.macros.Macro.{Macro}
 use Rattle.lg_pre.specs.Expanded.{one_line, lines_in, finishes, table_by, start_table}
-use Rattle.lg_pre.specs.Given.{fed, feeds_in, gives_text}
-use Rattle.lg_pre.specs.Pieces.{Piece, piece_at, between}
+use Rattle.lg_macro.specs.Text.{feeds_in}
+use Rattle.lg_pre.specs.Given.{fed, gives_text}
+use Rattle.lg_macro.specs.Pieces.{Piece, piece_at, between}
 use Rattle.lg_pre.specs.declared.expander.Expander.{Expander}
 use Rattle.lg_base.specs.declared.refusal.Refusal.{Refusal}
-use Rattle.lg_pre.proofs.CallLemmas.{between_cons, between_end}
+use Rattle.lg_macro.proofs.CallLemmas.{between_cons, between_end}
 
 pub fed_more : (pieces : List Piece) (at end : ℕ) (given next : List ℕ) → at < end → end ≤ length pieces → gives_text (piece_at pieces at).line (feeds_in (piece_at pieces at).text) given ≡ Ok next → fed (between (at + 1) end pieces) next ≡ fed (between at end pieces) given
 unfolding fed

@@ -5,14 +5,14 @@ use Rattle.std.proofs.lemmas.Bool.Decides.{nat_tests}
 use Rattle.std.proofs.lemmas.List.{drop_all, drop-drop, take-append-drop}
 use Rattle.std.proofs.lemmas.Slice.Eq.{bytes_eq-Decides}
 use Rattle.std.specs.Str.{bytes_eq}
-use Rattle.lg_pre.specs.Cutting.{cut, cut_in, front_of}
-use Rattle.lg_pre.specs.Arguments.{stripped, solid_len}
+use Rattle.lg_macro.specs.Cutting.{cut, cut_in, front_of}
+use Rattle.lg_macro.specs.Arguments.{stripped, solid_len}
 use Rattle.lg_pre.specs.Expanded.{start, start_table, one_line, lines_in, finishes, expanded}
 use Rattle.lg_pre.specs.Given.{ArePlain}
-use Rattle.lg_pre.specs.Macros.{most, place_in}
-use Rattle.lg_pre.specs.Pieces.{Piece, is_feed}
+use Rattle.lg_macro.specs.Macros.{most, place_in}
+use Rattle.lg_macro.specs.Pieces.{Piece, is_feed}
 use Rattle.lg_pre.specs.PlainTexts.{pieces_of, HasNoDirective, HasNoName, PlainTextsStay}
-use Rattle.lg_pre.specs.Text.{mark_in, line_len, bytes_of, ends_with_slash}
+use Rattle.lg_macro.specs.Text.{mark_in, line_len, bytes_of, ends_with_slash}
 use Rattle.lg_pre.specs.declared.expander.Expander.{Expander}
 use Rattle.lg_pre.proofs.LineLaws.{line_some}
 use Rattle.lg_pre.proofs.PlainLemmas.{pieces_are_text, plain_given}

@@ -2,10 +2,10 @@
 use Rattle.std.proofs.Common.{◌≡◌, ℕ, zero, suc, ◌+◌, ◌-◌, ◌<◌, ◌≤◌, nat_le, true, false, List, [], ◌∷◌, ◌++◌, length, drop, refl, arith, append_assoc, append-nil}
 use Rattle.std.proofs.lemmas.List.{drop_all}
 use Rattle.std.proofs.lemmas.Bool.Decides.{nat_tests}
-use Rattle.lg_pre.specs.Pieces.{Piece, piece_at, is_white}
+use Rattle.lg_macro.specs.Pieces.{Piece, piece_at, is_white}
 use Rattle.lg_pre.specs.Questions.{solid_at, question_at, resolved_by, resolved_from, worth, worth_of}
-use Rattle.lg_pre.specs.declared.macros.Macro.{Macro}
-use Rattle.lg_pre.proofs.CallLemmas.{drop_piece}
+use Rattle.lg_macro.specs.declared.macros.Macro.{Macro}
+use Rattle.lg_macro.proofs.CallLemmas.{drop_piece}
 
 pub solid_more : (pieces : List Piece) (at : ℕ) → at < length pieces → is_white (piece_at pieces at).kind ≡ true → solid_at pieces (at + 1) ≡ solid_at pieces at
 solid_more pieces at h white = rw (drop_piece pieces at h, white) (omega arith)

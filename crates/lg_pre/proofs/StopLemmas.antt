@@ -1,11 +1,11 @@
 -- Calls that stop, and calls that go on.
 use Rattle.std.proofs.Common.{◌≡◌, sym, subst, refl, ℕ, IsErrAnd, Result, Ok, Err}
 use Rattle.lg_base.specs.Refusals.{◌>>=◌}
-use Rattle.lg_pre.specs.Macros.{CountsAs, StepsAs, GivesAs, Reads}
+use Rattle.lg_macro.specs.Macros.{CountsAs, StepsAs, GivesAs, Reads}
 use Rattle.lg_base.specs.declared.refusal.Refusal.{Refusal}
 use Rattle.lg_base.specs.declared.refusal.Stop.{Stop}
 use Rattle.lg_base.specs.declared.refusal.Stop.TheVariants.{Refused, OutOfMemory}
-use Rattle.lg_pre.proofs.ExpansionLemmas.{Blames}
+use Rattle.lg_replacement.proofs.ExpansionLemmas.{Blames}
 
 bound : {A B : Type 0} (read : Result A Refusal) (f : A → Result B Refusal) (fault : Refusal) → read ≡ Err fault → (read >>= f) ≡ Err fault
 bound read f fault e = rw e refl

@@ -2,19 +2,19 @@
 use Rattle.std.proofs.Common.{◌≡◌, ℕ, zero, suc, ◌+◌, ◌<◌, ◌==◌, Bool, true, false, if◌then◌else◌, List, [], ◌∷◌, ◌++◌, length, take, drop, fold, refl, sym, ap, subst, ◌∙◌, arith, append_assoc, append-nil, Option, Some, None, slice_get, Ok, IfSome, IfOk}
 use Rattle.std.proofs.lemmas.Bool.Decides.{nat_tests}
 use Rattle.std.proofs.lemmas.Result.{IfOk-weaker}
-use Rattle.lg_pre.specs.Arguments.{opening, closing, arguments_of, feed, with_feed, with_feeds_of, with_feeds}
+use Rattle.lg_macro.specs.Arguments.{opening, closing, arguments_of, feed, with_feed, with_feeds_of, with_feeds}
 use Rattle.lg_pre.specs.Expanded.{start, one_line}
-use Rattle.lg_pre.specs.Expansion.{Step, kept, named, put, put_name, object, replaced, called, closed, opened, by_arity, at_macro, at_name, step, expand_in}
-use Rattle.lg_pre.specs.Expansion.{Expander as Replacer}
+use Rattle.lg_replacement.specs.Expansion.{Step, kept, named, put, put_name, object, replaced, called, closed, opened, by_arity, at_macro, at_name, step, expand_in}
+use Rattle.lg_replacement.specs.Expansion.{Expander as Replacer}
 use Rattle.lg_pre.specs.Given.{given_all}
 use Rattle.lg_pre.specs.Lines.{HaveLines, PiecesAreTheText, AreFeeds, IsOneLine, outermost, AreOnTheirLines, AreFlushedOnLines, IsOnItsLines, TokensKeepTheirLines}
-use Rattle.lg_pre.specs.Macros.{counted}
-use Rattle.lg_pre.specs.Pieces.{Piece}
+use Rattle.lg_macro.specs.Macros.{counted}
+use Rattle.lg_macro.specs.Pieces.{Piece}
 use Rattle.lg_pre.specs.PlainTexts.{pieces_of}
-use Rattle.lg_pre.specs.Text.{feeds_of, mark_in}
+use Rattle.lg_macro.specs.Text.{feeds_of, mark_in}
 use Rattle.lg_pre.specs.declared.expander.Expander.{Expander}
-use Rattle.lg_pre.specs.declared.macros.Macro.{Macro}
-use Rattle.lg_pre.proofs.FeedLemmas.{feeds_among, AreTidy, AreQuiet, among_bytes, tidy_drop, tidy_take, arguments_quiet}
+use Rattle.lg_macro.specs.declared.macros.Macro.{Macro}
+use Rattle.lg_macro.proofs.FeedLemmas.{feeds_among, AreTidy, AreQuiet, among_bytes, tidy_drop, tidy_take, arguments_quiet}
 use Rattle.lg_pre.proofs.LineLaws.{if_bound, any_result, IsQuietMacro, IsQuietTable, quiet_at, Keeps, put_keeps, replaced_keeps, step_keeps, expand_keeps, IsQuietName, name_is_quiet, given_keeps, lines_drop, IsInLine, IsWhole, line_keeps, start_in_line, whole_text}
 use Rattle.lg_pre.proofs.PlainLemmas.{pieces_are_text, plain_step}
 

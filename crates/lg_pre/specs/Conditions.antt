@@ -6,7 +6,7 @@ use Rattle.lg_pre.specs.declared.directive.Directive.{Directive}
 use Rattle.lg_pre.specs.declared.directive.Directive.TheVariants.{If, IfDefined, Else, EndIf}
 use Rattle.lg_base.specs.declared.refusal.Refusal.{Refusal}
 use Rattle.lg_base.specs.declared.refusal.RefusalKind.TheVariants.{BadDirective}
-use Rattle.lg_pre.specs.Pieces.{Piece}
+use Rattle.lg_macro.specs.Pieces.{Piece}
 
 abbrev pub innermost : List Condition → Option Condition
 innermost conditions = slice_get conditions (length conditions - 1)

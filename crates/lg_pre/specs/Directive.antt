@@ -1,11 +1,11 @@
 -- The names of directives.
 use Rattle.std.specs.Prelude.{ℕ, ◌==◌, true, false, if◌then◌else◌, List, length, codes}
 use Rattle.std.specs.Str.{bytes_eq}
-use Rattle.lg_pre.specs.Pieces.{Piece, piece_at}
+use Rattle.lg_macro.specs.Pieces.{Piece, piece_at}
 use Rattle.lg_pre.specs.declared.directive.Directive.{Directive}
 use Rattle.lg_pre.specs.declared.directive.Directive.TheVariants.{Nothing, Define, Undefine, IfDefined, If, Else, EndIf, Unknown}
-use Rattle.lg_pre.specs.declared.pieces.PieceKind.{PieceKind}
-use Rattle.lg_pre.specs.declared.pieces.PieceKind.TheVariants.{Word}
+use Rattle.lg_macro.specs.declared.pieces.PieceKind.{PieceKind}
+use Rattle.lg_macro.specs.declared.pieces.PieceKind.TheVariants.{Word}
 
 abbrev pub by_name : List ℕ → Directive
 by_name name = if bytes_eq name (codes "define") then Define

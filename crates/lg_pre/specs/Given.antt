@@ -1,10 +1,11 @@
 -- Bytes that are given, piece by piece.
-use Rattle.std.specs.Prelude.{ℕ, zero, suc, ◌+◌, ◌==◌, nat_lt, if◌then◌else◌, List, [], ◌∷◌, ◌++◌, length, drop, filter, None, ◌≡◌, Result, Ok}
-use Rattle.lg_pre.specs.Expansion.{expand_in, named, step}
+use Rattle.std.specs.Prelude.{ℕ, zero, suc, ◌+◌, nat_lt, if◌then◌else◌, List, [], ◌∷◌, ◌++◌, length, drop, None, ◌≡◌, Result, Ok}
+use Rattle.lg_replacement.specs.Expansion.{expand_in, named, step}
 use Rattle.lg_base.specs.Refusals.{◌>>=◌, refuse}
-use Rattle.lg_pre.specs.Macros.{most}
-use Rattle.lg_pre.specs.Pieces.{Piece}
-use Rattle.lg_pre.specs.declared.macros.Macro.{Macro}
+use Rattle.lg_macro.specs.Macros.{most}
+use Rattle.lg_macro.specs.Pieces.{Piece}
+use Rattle.lg_macro.specs.Text.{feeds_in}
+use Rattle.lg_macro.specs.declared.macros.Macro.{Macro}
 use Rattle.lg_base.specs.declared.refusal.Refusal.{Refusal}
 use Rattle.lg_base.specs.declared.refusal.RefusalKind.TheVariants.{ExpandTooMuch}
 
@@ -25,9 +26,6 @@ flushed table zero pieces given sum = Ok (given, sum)
 flushed table (suc k) [] given sum = Ok (given, sum)
 flushed table (suc k) (p ∷ rest) given sum = step table (expand_in table 200) [] p rest ([], sum)
     >>= (λ s. given_all s.1.0 given >>= (λ more. flushed table k (drop s.0 rest) more s.1.1))
-
-abbrev pub feeds_in : List ℕ → List ℕ
-feeds_in text = filter (λ b. b == 10) text
 
 -- the line feeds of pieces alone
 unfoldable pub fed : List Piece → List ℕ → Result (List ℕ) Refusal

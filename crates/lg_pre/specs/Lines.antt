@@ -2,14 +2,14 @@
 use Rattle.std.specs.Prelude.{◌≡◌, ℕ, zero, suc, ◌+◌, nat_le, true, false, List, [], ◌∷◌, ◌++◌, length, drop, Some, None, IfSome, Ok, IfOk}
 use Rattle.lg_pre.specs.Conditions.{skipping}
 use Rattle.lg_pre.specs.Expanded.{start, one_line, lines_in, expanded}
-use Rattle.lg_pre.specs.Expansion.{Step, named, step, expand_in}
+use Rattle.lg_replacement.specs.Expansion.{Step, named, step, expand_in}
 use Rattle.lg_pre.specs.Given.{given_all, flushed}
-use Rattle.lg_pre.specs.Pieces.{Piece}
+use Rattle.lg_macro.specs.Pieces.{Piece}
 use Rattle.lg_pre.specs.PlainTexts.{pieces_of}
-use Rattle.lg_pre.specs.Text.{feeds_of, bytes_of, mark_in}
+use Rattle.lg_macro.specs.Text.{feeds_of, bytes_of, mark_in}
 use Rattle.lg_pre.specs.declared.expander.Expander.{Expander}
-use Rattle.lg_pre.specs.declared.macros.Macro.{Macro}
-use Rattle.lg_pre.specs.declared.pieces.PieceKind.TheVariants.{Feed}
+use Rattle.lg_macro.specs.declared.macros.Macro.{Macro}
+use Rattle.lg_macro.specs.declared.pieces.PieceKind.TheVariants.{Feed}
 
 -- an expansion has as many line feeds as the text
 abbrev pub LineFeedsAreKept : Type 0

@@ -1,9 +1,9 @@
 -- Texts without directives and without names of macros.
 use Rattle.std.specs.Prelude.{◌≡◌, ◌≢◌, ℕ, ◌≤◌, Bool, true, List, [], ◌∷◌, length, None, Ok, codes}
 use Rattle.lg_pre.specs.Expanded.{expanded}
-use Rattle.lg_pre.specs.Macros.{most}
-use Rattle.lg_pre.specs.Pieces.{Piece, is_feed}
-use Rattle.lg_pre.specs.Text.{text_pieces, mark_in}
+use Rattle.lg_macro.specs.Macros.{most}
+use Rattle.lg_macro.specs.Pieces.{Piece, is_feed}
+use Rattle.lg_macro.specs.Text.{text_pieces, mark_in}
 
 -- the pieces of a whole text
 abbrev pub pieces_of : List ℕ → List Piece

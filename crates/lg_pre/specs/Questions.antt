@@ -6,12 +6,12 @@ use Rattle.lg_lex.specs.Tokens.{tokens_of}
 use Rattle.lg_lex.specs.declared.token.Token.{Token}
 use Rattle.lg_lex.specs.declared.token.TokenKind.{TokenKind}
 use Rattle.lg_lex.specs.declared.token.TokenKind.TheVariants.{Expression}
-use Rattle.lg_pre.specs.Expansion.{expand_in}
+use Rattle.lg_replacement.specs.Expansion.{expand_in}
 use Rattle.lg_base.specs.Refusals.{◌>>=◌, refuse}
-use Rattle.lg_pre.specs.Macros.{place_in}
-use Rattle.lg_pre.specs.Pieces.{Piece, piece_at, is_white, is_byte, is_word}
-use Rattle.lg_pre.specs.declared.macros.Macro.{Macro}
-use Rattle.lg_pre.specs.declared.pieces.PieceKind.TheVariants.{Number}
+use Rattle.lg_macro.specs.Macros.{place_in}
+use Rattle.lg_macro.specs.Pieces.{Piece, piece_at, is_white, is_byte, is_word}
+use Rattle.lg_macro.specs.declared.macros.Macro.{Macro}
+use Rattle.lg_macro.specs.declared.pieces.PieceKind.TheVariants.{Number}
 use Rattle.lg_base.specs.declared.refusal.Refusal.{Refusal}
 use Rattle.lg_base.specs.declared.refusal.RefusalKind.TheVariants.{BadDirective}
 

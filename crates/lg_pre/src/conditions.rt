@@ -2,12 +2,11 @@
 
 ghost use Rattle.std.specs.Prelude.{◌≡◌, ◌++◌, ◌∷◌, [], Ok, length};
 ghost use Rattle.lg_pre.specs.Conditions.{is_full, innermost, outer, skipping, opens, is_crowded, closes_at, turns_at, skipped};
-ghost use Rattle.lg_pre.specs.Macros.{CountsAs};
+ghost use Rattle.lg_macro.specs.Macros.{CountsAs};
 
 use crate::directive::Directive;
-use crate::macros::refused;
-use crate::pieces::Pieces;
 use lg_base::{RefusalKind, Stop};
+use lg_macro::{Pieces, refused};
 use std::alloc::Global;
 use std::marker::Model;
 

@@ -3,7 +3,7 @@
 ghost use Rattle.std.specs.Prelude.{◌≡◌};
 ghost use Rattle.lg_pre.specs.Directive.{by_name, directive_of};
 
-use crate::pieces::{PieceKind, Pieces};
+use lg_macro::{PieceKind, Pieces};
 
 /// The directives, by their names.
 #[derive(Clone, Copy)]

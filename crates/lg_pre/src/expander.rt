@@ -1,27 +1,25 @@
 // The lines of a text and its directives, and the expansion of a text.
 
 ghost use Rattle.std.specs.Prelude.{◌≡◌, ◌+◌, ◌<◌, ◌≤◌, [], length, drop, codes, IfOk, OnOk};
-ghost use Rattle.lg_pre.specs.Arguments.{stripped};
-ghost use Rattle.lg_pre.specs.Cutting.{cut};
-ghost use Rattle.lg_pre.specs.Defines.{spliced, written};
+ghost use Rattle.lg_macro.specs.Arguments.{stripped};
+ghost use Rattle.lg_macro.specs.Cutting.{cut};
+ghost use Rattle.lg_macro.specs.Defines.{spliced, written};
 ghost use Rattle.lg_pre.specs.Directive.{directive_of};
 ghost use Rattle.lg_pre.specs.Expanded.{lines_in, defines, undefines, opens_named, opens_if, read, obeyed, obeys, is_as_wanted, gives_lines, feeds_lines, flushes, waits, directed, directs, one_line, ended, finishes, start, table_by, start_table, expanded_in, expanded};
-ghost use Rattle.lg_pre.specs.Macros.{CountsAs, StepsAs, Reads};
+ghost use Rattle.lg_macro.specs.Macros.{CountsAs, StepsAs, Reads};
 ghost use Rattle.std.specs.Prelude.{Ok};
-ghost use Rattle.lg_pre.specs.Pieces.{piece_at, between};
+ghost use Rattle.lg_macro.specs.Pieces.{piece_at, between};
 
-use crate::arguments::stripped;
 use crate::conditions::Conditions;
-use crate::cutting::push_cut;
-use crate::defines::{one_word, spliced, stripped_from, written};
 use crate::directive::{Directive, directive_of};
 use crate::flush::{feed, flush};
-use crate::macros::{MOST_HELD, Table, Work, refused};
-use crate::pieces::Pieces;
-use crate::plain_text::PlainText;
 use crate::questions::asks;
-use crate::text::{line_len, mark_in, text_pieces};
 use lg_base::{OutOfMemory, RefusalKind, Stop};
+use lg_macro::arguments::stripped;
+use lg_macro::{
+    MOST_HELD, Pieces, PlainText, Table, Work, line_len, mark_in, one_word, push_cut, refused,
+    spliced, stripped_from, text_pieces, written,
+};
 use std::alloc::Global;
 
 /// What a text has come to: macros, open conditions, the lines that wait for the next directive, bytes given, and the sum of replacements.

@@ -1,20 +1,18 @@
 // The expressions of `#if`.
 
 ghost use Rattle.std.specs.Prelude.{◌≡◌, ◌+◌, ◌++◌, ◌<◌, ◌≤◌, [], length, IfOk, OnOk, IfSome};
-ghost use Rattle.lg_pre.specs.Macros.{Reads, GivesAs};
-ghost use Rattle.lg_pre.specs.Pieces.{piece_at};
+ghost use Rattle.lg_macro.specs.Macros.{Reads, GivesAs};
+ghost use Rattle.lg_macro.specs.Pieces.{piece_at};
 ghost use Rattle.lg_pre.specs.Questions.{solid_at, name_in_parens, asked, is_question, question_at, answer_of, resolved_by, resolved, token_text, value_of, worth, worth_of, is_chosen, question, asks, value_in, is_expression};
 ghost use Rattle.lg_lex.specs.Tokens.{tokens_of};
 ghost use Rattle.std.specs.Prelude.{◌==◌, ◌&&◌, if◌then◌else◌, Some, None};
 ghost use Rattle.std.specs.Prelude.{◌∷◌};
 
-use crate::expansion::expand;
-use crate::macros::{MOST_HELD, Table, Work, refused};
-use crate::pieces::{PieceKind, Pieces};
-use crate::plain_text::PlainText;
 use lg_base::layout::MOST_TEXT;
 use lg_base::{OutOfMemory, RefusalKind, Stop};
 use lg_lex::{Lexer, TokenKind};
+use lg_macro::{MOST_HELD, PieceKind, Pieces, PlainText, Table, Work, refused};
+use lg_replacement::expand;
 use std::alloc::Global;
 
 // The place of the next piece that is no white space.

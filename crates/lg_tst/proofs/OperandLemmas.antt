@@ -19,11 +19,11 @@ use Rattle.lg_op.specs.declared.op.Addressing.TheVariants as addressing
 use Rattle.lg_op.specs.declared.operand.Operand.{Operand}
 use Rattle.lg_op.specs.declared.operand.Operand.TheVariants as operand
 use Rattle.lg_node.specs.Nodes.{with_node}
-use Rattle.lg_tst.specs.Operands.{differ, stays_apart}
+use Rattle.lg_operand.specs.Operands.{differ, stays_apart}
 use Rattle.lg_base.specs.Refusals.{◌>>=◌}
 use Rattle.lg_tst.specs.Names.{FunctionNames}
 use Rattle.lg_tst.specs.Units.{State, all_operands, wanted, behind, operand_of, noted, operands, most_nodes, written_forms}
-use Rattle.lg_tst.specs.Words.{register_word}
+use Rattle.lg_operand.specs.Registers.{register_word}
 
 -- no operation has more than four operands
 pub few_forms : (op : Op) → length (written_forms op) ≤ 4

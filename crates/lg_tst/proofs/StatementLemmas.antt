@@ -6,7 +6,8 @@ use Rattle.lg_lex.specs.declared.token.TokenKind.{TokenKind}
 use Rattle.lg_lex.specs.declared.token.TokenKind.TheVariants.{Word, Directive, LabelMark, Register, Number, Character, Expression, Name, Host, Str}
 use Rattle.lg_op.specs.declared.op.Op.{Op}
 use Rattle.lg_tst.specs.Statements.{instruction_or, word_in, word_statement, directive_statement, statement_of}
-use Rattle.lg_tst.specs.Words.{is_float_word, is_float_register, directive_of, op_of}
+use Rattle.lg_operand.specs.Registers.{is_float_register}
+use Rattle.lg_tst.specs.Words.{is_float_word, directive_of, op_of}
 use Rattle.lg_tst.specs.declared.words.Directive.{Directive as DirectiveName}
 use Rattle.lg_tst.specs.declared.words.Directive.TheVariants as directive
 use Rattle.lg_tst.specs.declared.statement.Section.{Section}

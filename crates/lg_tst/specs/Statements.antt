@@ -8,7 +8,8 @@ use Rattle.lg_lex.specs.declared.token.TokenKind.TheVariants.{Word, Directive, L
 use Rattle.lg_op.specs.declared.op.Op.{Op}
 use Rattle.lg_op.specs.declared.op.Op.TheVariants.{Plain}
 use Rattle.lg_op.specs.declared.op.PlainOp.TheVariants as plain
-use Rattle.lg_tst.specs.Words.{is_float_word, is_float_register, directive_of, op_of}
+use Rattle.lg_operand.specs.Registers.{is_float_register}
+use Rattle.lg_tst.specs.Words.{is_float_word, directive_of, op_of}
 use Rattle.lg_tst.specs.declared.words.Directive.{Directive as DirectiveName}
 use Rattle.lg_tst.specs.declared.words.Directive.TheVariants as directive
 use Rattle.lg_tst.specs.declared.statement.Section.{Section}

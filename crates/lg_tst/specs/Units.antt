@@ -23,7 +23,8 @@ use Rattle.lg_node.specs.declared.place.Place.TheVariants as place
 use Rattle.lg_node.specs.declared.unit.Unit.{Unit as TextUnit}
 use Rattle.lg_tst.specs.DataParts.{DataBytes, no_data, fits, with_bytes, zeros, image_of}
 use Rattle.lg_tst.specs.Names.{FunctionNames, no_names}
-use Rattle.lg_tst.specs.Operands.{operand_at, apart_or, names_behind, misfit}
+use Rattle.lg_operand.specs.Operands.{misfit}
+use Rattle.lg_tst.specs.Operands.{operand_at, apart_or, names_behind}
 use Rattle.lg_tst.specs.Statements.{statement_of, bytes_in, is_number, is_value}
 use Rattle.lg_base.specs.Refusals.{◌>>=◌, refuse}
 use Rattle.lg_tst.specs.Streams.{Stream, text_of, without_last, next_of, wanted_of, passed}

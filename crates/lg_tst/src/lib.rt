@@ -7,7 +7,6 @@ ghost use Rattle.lg_tst.specs.Units.{unit_of};
 
 mod data_part;
 mod names;
-mod operand;
 mod parser;
 mod source;
 mod statement;

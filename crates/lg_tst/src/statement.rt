@@ -3,10 +3,11 @@
 ghost use Rattle.std.specs.Prelude.{◌≡◌, ◌≤◌};
 ghost use Rattle.lg_tst.specs.Statements.{code_word, word_in, word_statement, directive_statement, statement_of, bytes_in, is_number, is_value};
 
-use crate::words::{Directive, is_float_register, is_float_word, op_of};
+use crate::words::{Directive, is_float_word, op_of};
 use lg_base::RefusalKind;
 use lg_lex::TokenKind;
 use lg_op::{Op, PlainOp};
+use lg_operand::is_float_register;
 
 /// The section in which a statement stands.
 #[derive(Clone, Copy)]

@@ -1,13 +1,11 @@
-// What the words of a text name: registers, directives, operations, and floating point.
+// What the words of a text name: directives, operations, and floating point.
 
-ghost use Rattle.std.specs.Prelude.{◌≡◌, drop};
-ghost use Rattle.std.specs.Char.{is_ascii_digit};
-ghost use Rattle.std.specs.List.{list_all};
+ghost use Rattle.std.specs.Prelude.{◌≡◌};
 ghost use Rattle.lg_tst.specs.Streams.{without_last};
-ghost use Rattle.lg_tst.specs.Words.{register_word, register_of, are_digits, is_float_register, begins_float_part, is_float_word, directive_word, directive_of, op_of};
+ghost use Rattle.lg_tst.specs.Words.{begins_float_part, is_float_word, directive_word, directive_of, op_of};
 
 use lg_lex::bytes::behind;
-use lg_op::{Op, Reg};
+use lg_op::Op;
 
 /// The directives of a text, and those of floating point.
 #[derive(Clone, Copy)]
@@ -46,65 +44,6 @@ static DIRECTIVES: [Directive; 10] = [
     Directive::Float,
     Directive::Double,
 ];
-
-static REGISTERS: [Reg; 7] = [
-    Reg::R0,
-    Reg::R1,
-    Reg::R2,
-    Reg::V0,
-    Reg::V1,
-    Reg::V2,
-    Reg::Fp,
-];
-
-/// The text of a register.
-pub fn register_word(register: Reg) -> &'static [u8]
-    ensures { result.now ≡ register_word register }
-{
-    match register {
-        Reg::R0 => b"%r0",
-        Reg::R1 => b"%r1",
-        Reg::R2 => b"%r2",
-        Reg::V0 => b"%v0",
-        Reg::V1 => b"%v1",
-        Reg::V2 => b"%v2",
-        Reg::Fp => b"%fp",
-    }
-}
-
-/// The register of a text, and None where it is none of the seven.
-pub fn register_of(word: &[u8]) -> Option<Reg>
-    ensures { result ≡ register_of word.now }
-{
-    REGISTERS
-        .iter()
-        .copied()
-        .find(|register| word == register_word(*register))
-}
-
-// Whether all bytes are decimal digits.
-fn all_digits(bytes: &[u8]) -> bool
-    ensures { result ≡ list_all is_ascii_digit bytes.now }
-{
-    bytes.iter().all(|byte| byte.is_ascii_digit())
-}
-
-// Whether there is a byte, and all are decimal digits.
-fn are_digits(bytes: &[u8]) -> bool
-    ensures { result ≡ are_digits bytes.now }
-{
-    !bytes.is_empty() && all_digits(bytes)
-}
-
-/// Whether the text of a register names a floating-point one: `%f` with digits.
-pub fn is_float_register(word: &[u8]) -> bool
-    ensures { result ≡ is_float_register word.now }
-{
-    match word {
-        [_, b'f', digits @ ..] => are_digits(digits),
-        _ => false,
-    }
-}
 
 // Whether `_` comes, and then f or d is all that comes before the end or the next `_`.
 fn begins_float_part(word: &[u8]) -> bool
@@ -163,16 +102,6 @@ pub fn op_of(word: &[u8]) -> Option<Op>
     ensures { result ≡ op_of word.now }
 {
     Op::by_name(word)
-}
-
-/// A text behind its mark, which is its first byte.
-pub fn behind_mark(text: &[u8]) -> &[u8]
-    ensures { result.now ≡ drop 1 text.now }
-{
-    match text {
-        [_, rest @ ..] => rest,
-        [] => text,
-    }
 }
 
 /// A text without its last byte.

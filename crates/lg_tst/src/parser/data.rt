@@ -11,11 +11,11 @@ ghost use Rattle.lg_tst.specs.Units.{behind, number_wanted, opened, data_section
 
 use super::{Parser, refuse};
 use crate::data_part::MOST_DATA;
-use crate::operand::misfit;
 use crate::statement::{ItemSize, Section, is_number};
 use byteorder::{ByteOrder, LittleEndian};
 use lg_base::{RefusalKind, Stop};
 use lg_lex::{Token, TokenKind, string_bytes};
+use lg_operand::misfit;
 
 // Whether a number is a power of two from 1 to 4,096.
 fn is_data_alignment(number: u64) -> bool

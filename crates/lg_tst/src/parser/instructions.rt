@@ -6,18 +6,19 @@ ghost use Rattle.lg_op.specs.Nodes.{InForm};
 ghost use Rattle.lg_lex.specs.declared.token.TokenKind.TheVariants as kind;
 ghost use Rattle.lg_node.specs.Nodes.{is_word, with_node};
 ghost use Rattle.lg_tst.specs.Answers.{Gives, GivesWith, HasRoom};
-ghost use Rattle.lg_tst.specs.Operands.{name_operand, names_behind, operand_at, stays_apart};
+ghost use Rattle.lg_operand.specs.Operands.{stays_apart};
+ghost use Rattle.lg_tst.specs.Operands.{name_operand, names_behind, operand_at};
 ghost use Rattle.lg_tst.specs.Streams.{IsToken};
 ghost use Rattle.lg_tst.specs.Units.{at_line, token_text, noted_by, noted, operand_of, operands, written_forms, all_operands, instruction, most_nodes};
 
 use super::{Parser, at_line, refuse};
-use crate::operand::{
-    admitted, argument_named, host_operand, local_named, local_size, register_operand, stays_apart,
-};
-use crate::words::behind_mark;
 use lg_base::{HostName, RefusalKind, Stop};
 use lg_lex::{Token, TokenKind};
 use lg_op::{Form, Node, Op, Operand, Operands, PlainOp};
+use lg_operand::{
+    admitted, argument_named, behind_mark, host_operand, local_named, local_size, register_operand,
+    stays_apart,
+};
 
 // The most nodes of a text.
 const MOST_NODES: u32 = 1_048_576;

@@ -6,12 +6,12 @@ ghost use Rattle.lg_tst.specs.Answers.{Gives, HasRoom, LiesWithin};
 ghost use Rattle.lg_tst.specs.Units.{place_in, bound_at, or_twice, label, name_word, skip_if, is_string, is_digits, note};
 
 use super::{Parser, refuse};
-use crate::operand::misfit;
 use crate::statement::Section;
 use lg_base::{RefusalKind, Stop};
 use lg_lex::TokenKind;
 use lg_node::Place;
 use lg_op::Label;
+use lg_operand::misfit;
 
 impl Parser<'_> {
     // Where the next node or the next data byte stands.

@@ -1,4 +1,4 @@
-use Rattle.lg_pre.proofs.ExpansionLemmas.{counts_blames}
+use Rattle.lg_replacement.proofs.ExpansionLemmas.{counts_blames}
 use Rattle.lg_pre.proofs.StopLemmas.{reads_from}
 use Rattle.lg_pre.proofs.expander.expand_pieces.Goals as goal
 

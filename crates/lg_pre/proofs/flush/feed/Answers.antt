@@ -1,5 +1,5 @@
 use Rattle.std.proofs.Common.{◌∙◌, sym, arith}
-use Rattle.lg_pre.proofs.ExpansionLemmas.{counts_stop, counts_blames}
+use Rattle.lg_replacement.proofs.ExpansionLemmas.{counts_stop, counts_blames}
 use Rattle.lg_pre.proofs.LineLemmas.{fed_more, fed_stop, fed_done}
 use Rattle.lg_pre.proofs.flush.feed.Goals as goal
 

@@ -1,6 +1,6 @@
 use Rattle.std.proofs.Common.{◌≡◌}
 use Rattle.lg_pre.specs.Given.{fed}
-use Rattle.lg_pre.specs.Pieces.{between}
+use Rattle.lg_macro.specs.Pieces.{between}
 use Rattle.lg_pre.proofs.flush.feed.Given as goal
 
 abbrev pub invariant-pieces : goal.invariant-pieces

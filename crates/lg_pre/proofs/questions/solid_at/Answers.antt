@@ -1,5 +1,5 @@
 use Rattle.std.proofs.Common.{◌∙◌, sym, ap, arith}
-use Rattle.lg_pre.specs.Pieces.{is_white}
+use Rattle.lg_macro.specs.Pieces.{is_white}
 use Rattle.lg_pre.proofs.QuestionLemmas.{solid_here, solid_more, solid_none}
 use Rattle.lg_pre.proofs.questions.solid_at.Goals as goal
 

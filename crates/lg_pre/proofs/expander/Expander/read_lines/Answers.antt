@@ -1,7 +1,7 @@
 use Rattle.std.proofs.Common.{◌∙◌, ◌-◌, List, ℕ, sym, subst, refl, length, arith, Result}
-use Rattle.lg_pre.specs.Macros.{CountsAs}
+use Rattle.lg_macro.specs.Macros.{CountsAs}
 use Rattle.lg_base.specs.declared.refusal.Refusal.{Refusal}
-use Rattle.lg_pre.proofs.ExpansionLemmas.{steps_blames}
+use Rattle.lg_replacement.proofs.ExpansionLemmas.{steps_blames}
 use Rattle.lg_pre.proofs.LineLemmas.{lines_more, lines_stop, lines_done}
 use Rattle.lg_pre.proofs.StopLemmas.{counts_from}
 use Rattle.lg_pre.proofs.expander.Expander.read_lines.Goals as goal

@@ -1,0 +1,9 @@
+use Rattle.std.proofs.Common.{◌≡◌, ◌≤◌, length, take}
+use Rattle.lg_macro.specs.Arguments.{solid_len}
+use Rattle.lg_macro.proofs.arguments.solid_len.Given as goal
+
+abbrev pub invariant-white : goal.invariant-white
+invariant-white l = (l.n ≤ length l.pieces) × (solid_len l.pieces ≡ solid_len (take l.n l.pieces))
+
+abbrev pub decreases-white : goal.decreases-white
+decreases-white l = l.n

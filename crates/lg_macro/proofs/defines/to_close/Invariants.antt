@@ -1,0 +1,11 @@
+use Rattle.std.proofs.Common.{◌≡◌, ◌≤◌, ◌+◌, ◌-◌, length, drop}
+use Rattle.lg_lex.specs.Bytes.{further}
+use Rattle.lg_macro.specs.Defines.{to_close}
+use Rattle.lg_macro.proofs.defines.to_close.Given as goal
+
+abbrev pub invariant-inner : goal.invariant-inner
+invariant-inner l = (l.from + l.n ≤ length l.pieces) × (l.end ≡ length l.pieces)
+    × (to_close (drop l.from l.pieces) ≡ further l.n (to_close (drop (l.from + l.n) l.pieces)))
+
+abbrev pub decreases-inner : goal.decreases-inner
+decreases-inner l = length l.pieces - l.n

@@ -1,0 +1,10 @@
+use Rattle.std.proofs.Common.{◌≡◌, ◌≤◌, ◌+◌, ◌-◌, ◌++◌, ℕ, length, drop}
+use Rattle.lg_macro.specs.Text.{text_pieces}
+use Rattle.lg_macro.proofs.text.text_pieces.Given as goal
+
+abbrev pub invariant-pieces : goal.invariant-pieces
+invariant-pieces l = (l.end ≡ length l.text) × (l.at ≤ l.end) × (l.line ≤ 1 + l.at) × (l.end ≤ 16777216)
+    × ((k : ℕ) × (length l.text ≤ l.at + k) × (l.out ++ text_pieces k l.line (drop l.at l.text) ≡ text_pieces (length l.text) 1 l.text))
+
+abbrev pub decreases-pieces : goal.decreases-pieces
+decreases-pieces l = l.end - l.at

@@ -1,0 +1,11 @@
+pub mod Arguments
+pub mod Cutting
+pub mod Defines
+pub mod Macros
+pub mod Marks
+pub mod Pasting
+pub mod PieceParts
+pub mod Pieces
+pub mod Substitution
+pub mod Tables
+pub mod Text

@@ -1,0 +1,231 @@
+// The calls of macros, and their arguments.
+
+ghost use Rattle.std.specs.Prelude.{◌≡◌, ◌+◌, ◌++◌, ◌∷◌, [], ◌<◌, ◌≤◌, length, take, drop, OnOk, IfSome, IfOk};
+ghost use Rattle.lg_macro.specs.Arguments.{opening, closing, depth_behind, in_argument, gathered, arguments_of, solid_len, stripped, is_empty_list, with_feeds, with_feed};
+ghost use Rattle.std.specs.Prelude.{fold, option_map};
+ghost use Rattle.lg_macro.specs.Pieces.{between};
+ghost use Rattle.lg_macro.specs.Pieces.{piece_at, is_byte, is_white};
+ghost use Rattle.std.specs.List.{prefix_len};
+ghost use Rattle.std.specs.Prelude.{◌&&◌, ◌==◌};
+
+use crate::pieces::{PieceKind, Pieces};
+use lg_base::OutOfMemory;
+use std::alloc::Global;
+
+/// The pieces from a place to the `(` of a call, that included, where it comes next but for white space.
+pub fn opening(pieces: &Pieces, from: usize) -> Option<usize>
+    requires { from ≤ length pieces.now }
+    ensures value { result ≡ opening (drop from pieces.now) }
+    ensures inside { IfSome result (λ n. from + n ≤ length pieces.now) }
+{
+    let end = pieces.len();
+    let mut n = 0;
+    'white: while from + n < end {
+        let kind = pieces.kind(from + n);
+        if !kind.is_white() {
+            return if kind.is_byte(b'(') {
+                Some(n + 1)
+            } else {
+                None
+            };
+        }
+        n += 1;
+    }
+    None
+}
+
+// The open parentheses behind a piece.
+fn depth_behind(depth: usize, kind: PieceKind) -> usize
+    requires { depth < 18446744073709551615 }
+    ensures { result ≡ depth_behind depth kind }
+{
+    if kind.is_byte(b'(') {
+        depth + 1
+    } else if kind.is_byte(b')') {
+        depth.saturating_sub(1)
+    } else {
+        depth
+    }
+}
+
+// Whether a byte stands outside the parentheses of a call's arguments.
+fn ends(kind: PieceKind, byte: u8, depth: usize) -> bool
+    ensures { result ≡ (is_byte byte kind && (depth == 0)) }
+{
+    kind.is_byte(byte) && depth == 0
+}
+
+/// The pieces from a place to the `)` that closes a call, that not included.
+pub fn closing(pieces: &Pieces, from: usize) -> Option<usize>
+    requires { from ≤ length pieces.now }
+    ensures value { result ≡ closing 0 (drop from pieces.now) }
+    ensures inside { IfSome result (λ n. from + n < length pieces.now) }
+{
+    let end = pieces.len();
+    let mut n = 0;
+    let mut depth = 0;
+    'inner: while from + n < end {
+        let kind = pieces.kind(from + n);
+        if ends(kind, b')', depth) {
+            return Some(n);
+        }
+        depth = depth_behind(depth, kind);
+        n += 1;
+    }
+    None
+}
+
+// Adds a piece to an argument.
+fn push_in(now: &mut Pieces, pieces: &Pieces, at: usize, line: u32) -> Result<(), OutOfMemory>
+    requires { at < length pieces.now }
+    ensures { OnOk result (now.new ≡ now.old ++ in_argument line (piece_at pieces.now at) ∷ []) }
+{
+    match pieces.kind(at) {
+        PieceKind::Comment | PieceKind::Feed => now.push(PieceKind::Byte(b' '), b" ", line, false),
+        kind => now.push(kind, pieces.text(at), line, pieces.is_frozen(at)),
+    }
+}
+
+// The pieces to the last that is no white space, that included.
+fn solid_len(pieces: &Pieces) -> usize
+    ensures value { result ≡ solid_len pieces.now }
+    ensures inside { result ≤ length pieces.now }
+{
+    let mut n = pieces.len();
+    'white: while n > 0 && pieces.kind(n - 1).is_white() {
+        n -= 1;
+    }
+    n
+}
+
+// Pieces without the white space at their ends.
+pub fn stripped(alloc: Global, pieces: &Pieces) -> Result<Pieces, OutOfMemory>
+    ensures { IfOk result (λ r. r ≡ stripped pieces.now) }
+{
+    let end = solid_len(pieces);
+    let start = white_len(pieces, end);
+    let mut solid = Pieces::new(alloc);
+    solid.append_between(pieces, start, end)?;
+    Ok(solid)
+}
+
+// The white space in front of the first so many pieces.
+fn white_len(pieces: &Pieces, end: usize) -> usize
+    requires { end ≤ length pieces.now }
+    ensures value { result ≡ prefix_len (λ p. is_white p.kind) (take end pieces.now) }
+    ensures inside { result ≤ end }
+{
+    let mut n = 0;
+    'white: while n < end && pieces.kind(n).is_white() {
+        n += 1;
+    }
+    n
+}
+
+// Adds an argument, without the white space at its ends.
+fn push_stripped(
+    done: &mut Vec<Pieces>,
+    alloc: Global,
+    argument: &Pieces,
+) -> Result<(), OutOfMemory>
+    ensures { OnOk result (done.new.items ≡ done.old.items ++ stripped argument.now ∷ []) }
+{
+    let solid = stripped(alloc, argument)?;
+    done.push(solid)?;
+    Ok(())
+}
+
+// The arguments between the parentheses of a call.
+pub(crate) fn gathered(
+    alloc: Global,
+    pieces: &Pieces,
+    from: usize,
+    end: usize,
+    line: u32,
+) -> Result<Vec<Pieces>, OutOfMemory>
+    requires order { from ≤ end }
+    requires inside { end ≤ length pieces.now }
+    ensures { IfOk result (λ r. r.items ≡ gathered line 0 [] [] (between from end pieces.now)) }
+{
+    let mut done: Vec<Pieces> = Vec::new(alloc);
+    let mut now = Pieces::new(alloc);
+    let mut depth = 0;
+    'pieces: for at in from..end {
+        let kind = pieces.kind(at);
+        if ends(kind, b',', depth) {
+            push_stripped(&mut done, alloc, &now)?;
+            now = Pieces::new(alloc);
+        } else {
+            depth = depth_behind(depth, kind);
+            push_in(&mut now, pieces, at, line)?;
+        }
+    }
+    push_stripped(&mut done, alloc, &now)?;
+    Ok(done)
+}
+
+// Whether there is one argument, without a piece.
+fn is_empty_list(arguments: &[Pieces]) -> bool
+    ensures { result ≡ is_empty_list arguments.now }
+{
+    match arguments {
+        [only] => only.len() == 0,
+        _ => false,
+    }
+}
+
+/// The arguments of a call, between two places, where their number is right.
+#[tactic(auto, unfolding(crate::specs::Arguments::arguments_of))]
+pub fn arguments(
+    alloc: Global,
+    pieces: &Pieces,
+    from: usize,
+    end: usize,
+    arity: usize,
+    line: u32,
+) -> Result<Option<Vec<Pieces>>, OutOfMemory>
+    requires order { from ≤ end }
+    requires inside { end ≤ length pieces.now }
+    ensures { IfOk result (λ r. option_map (λ v. v.items) r ≡ arguments_of arity line (between from end pieces.now)) }
+{
+    let all = gathered(alloc, pieces, from, end, line)?;
+    if arity == 0 && is_empty_list(&all) {
+        return Ok(Some(Vec::new(alloc)));
+    }
+    if all.len() == arity {
+        Ok(Some(all))
+    } else {
+        Ok(None)
+    }
+}
+
+/// Adds the line feeds of pieces between two places.
+#[tactic(auto, unfolding(crate::specs::Arguments::with_feeds))]
+pub fn push_feeds(
+    out: &mut Pieces,
+    pieces: &Pieces,
+    from: usize,
+    end: usize,
+    line: u32,
+) -> Result<(), OutOfMemory>
+    requires order { from ≤ end }
+    requires inside { end ≤ length pieces.now }
+    ensures { OnOk result (out.new ≡ with_feeds line out.old (between from end pieces.now)) }
+{
+    'pieces: for at in from..end {
+        push_feeds_of(out, pieces.text(at), line)?;
+    }
+    Ok(())
+}
+
+// Adds the line feeds of a text.
+fn push_feeds_of(out: &mut Pieces, text: &[u8], line: u32) -> Result<(), OutOfMemory>
+    ensures { OnOk result (out.new ≡ fold (with_feed line) out.old text.now) }
+{
+    for b in text {
+        if *b == b'\n' {
+            out.push(PieceKind::Feed, b"\n", line, false)?;
+        }
+    }
+    Ok(())
+}

@@ -1,0 +1,22 @@
+//! The pieces of a text, and macros: how a `#define` writes them, their table, the arguments of a call, and what stands for a body.
+#![tactic(auto)]
+
+pub mod arguments;
+mod body;
+mod cutting;
+mod defines;
+mod kinds;
+mod macros;
+mod marks;
+mod pieces;
+mod plain_text;
+mod substitution;
+mod text;
+
+pub use cutting::push_cut;
+pub use defines::{one_word, spliced, stripped_from, written};
+pub use macros::{MOST_HELD, Macro, Table, Work, count, hold, is_hidden, refused};
+pub use pieces::{PieceKind, Pieces};
+pub use plain_text::PlainText;
+pub use substitution::substituted;
+pub use text::{line_len, mark_in, text_pieces};

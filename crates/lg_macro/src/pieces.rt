@@ -1,0 +1,233 @@
+// Pieces of a text, in their order.
+
+ghost use Rattle.std.specs.Prelude.{◌≡◌, ◌≤◌, ◌<◌, [], ◌∷◌, ◌++◌, length, sum_by, OnOk, false};
+ghost use Rattle.lg_macro.specs.Pieces.{is_byte, is_white, piece_at, froze, on_line, between, text_length};
+
+use lg_base::OutOfMemory;
+use std::alloc::Global;
+use std::marker::Model;
+
+/// The kinds of pieces.
+#[derive(Clone, Copy, PartialEq, Eq)]
+pub enum PieceKind {
+    /// A comment.
+    Comment,
+    /// A string or a character with its quotes.
+    Quoted,
+    /// A word.
+    Word,
+    /// A number.
+    Number,
+    /// A line feed.
+    Feed,
+    /// Any other byte.
+    Byte(u8),
+}
+
+/// A piece as it is held: its text is a range of bytes.
+#[derive(Clone, Copy)]
+pub(crate) struct Part {
+    pub(crate) kind: PieceKind,
+    pub(crate) frozen: bool,
+    pub(crate) line: u32,
+    pub(crate) start: usize,
+    pub(crate) end: usize,
+}
+
+/// Pieces in their order, each with its text, its line and whether it is frozen.
+#[derive(Drop)]
+pub struct Pieces {
+    bytes: Vec<u8>,
+    parts: Vec<Part>,
+}
+
+impl Model for Pieces {
+    ghost use Rattle.std.specs.Prelude.{◌≡◌, List, length, map, sum_by};
+    ghost use Rattle.std.specs.List.{All};
+    ghost use Rattle.lg_macro.specs.Pieces.{Piece};
+    ghost use Rattle.lg_macro.specs.PieceParts.{piece_of, LiesIn, width};
+
+    ghost Value = { List Piece };
+
+    ghost view = { λ p. map (piece_of p.bytes.items) p.parts.items };
+
+    ghost invariant = { λ p. All (LiesIn p.bytes.items) p.parts.items × (sum_by width p.parts.items ≡ length p.bytes.items) };
+}
+
+impl PieceKind {
+    /// Whether a piece of this kind is white space or a comment.
+    pub fn is_white(self) -> bool
+        ensures { result ≡ is_white self }
+    {
+        match self {
+            PieceKind::Comment | PieceKind::Feed => true,
+            PieceKind::Byte(b) => b == b' ' || (b >= 9 && b <= 13),
+            _ => false,
+        }
+    }
+
+    /// Whether it is this single byte.
+    pub fn is_byte(self, byte: u8) -> bool
+        ensures { result ≡ is_byte byte self }
+    {
+        match self {
+            PieceKind::Byte(b) => b == byte,
+            _ => false,
+        }
+    }
+}
+
+const MOST_PIECES: usize = 16_777_216;
+
+const MOST_BYTES: usize = 67_108_864;
+
+impl Pieces {
+    /// No pieces.
+    pub fn new(alloc: Global) -> Pieces
+        ensures { result ≡ [] }
+    {
+        Pieces {
+            bytes: Vec::new(alloc),
+            parts: Vec::new(alloc),
+        }
+    }
+
+    /// How many there are.
+    pub fn len(&self) -> usize
+        ensures { result ≡ length self.now }
+    {
+        self.parts.len()
+    }
+
+    /// The sum of the bytes of all pieces, below 134,217,728.
+    pub fn size(&self) -> usize
+        ensures { result ≡ sum_by text_length self.now }
+    {
+        self.bytes.as_slice().len()
+    }
+
+    /// The kind of the piece at a place.
+    pub fn kind(&self, at: usize) -> PieceKind
+        requires { at < length self.now }
+        ensures { result ≡ (piece_at self.now at).kind }
+    {
+        self.parts[at].kind
+    }
+
+    /// The line of the piece at a place.
+    pub fn line(&self, at: usize) -> u32
+        requires { at < length self.now }
+        ensures { result ≡ (piece_at self.now at).line }
+    {
+        self.parts[at].line
+    }
+
+    /// The text of the piece at a place.
+    pub fn text(&self, at: usize) -> &[u8]
+        requires { at < length self.now }
+        ensures { result.now ≡ (piece_at self.now at).text }
+    {
+        let part = self.parts[at];
+        &self.bytes[part.start..part.end]
+    }
+
+    // Whether a list is so long that it is not made longer: no definition bounds the lists that a call holds in between.
+    fn is_long(&self, text: &[u8]) -> bool {
+        self.parts.len() >= MOST_PIECES
+            || self.bytes.len() >= MOST_BYTES
+            || text.len() >= MOST_BYTES
+    }
+
+    /// Adds a piece. Memory is wanted too where there are 16,777,216 pieces or 67,108,864 bytes.
+    pub fn push(
+        &mut self,
+        kind: PieceKind,
+        text: &[u8],
+        line: u32,
+        frozen: bool,
+    ) -> Result<(), OutOfMemory>
+        ensures { OnOk result (self.new ≡ self.old ++ record { kind = kind; text = text.now; line = line; frozen = frozen } ∷ []) }
+    {
+        let start = self.bytes.as_slice().len();
+        if self.is_long(text) {
+            return Err(OutOfMemory);
+        }
+        self.parts.reserve(1)?;
+        self.bytes.extend_from_slice(text)?;
+        let end = self.bytes.as_slice().len();
+        self.parts.push(Part {
+            kind,
+            frozen,
+            line,
+            start,
+            end,
+        })?;
+        Ok(())
+    }
+}
+
+impl Pieces {
+    /// Whether the piece at a place is frozen.
+    pub fn is_frozen(&self, at: usize) -> bool
+        requires { at < length self.now }
+        ensures { result ≡ (piece_at self.now at).frozen }
+    {
+        self.parts[at].frozen
+    }
+
+    /// Adds a piece of others as it is.
+    pub fn push_same(&mut self, others: &Pieces, at: usize) -> Result<(), OutOfMemory>
+        requires { at < length others.now }
+        ensures { OnOk result (self.new ≡ self.old ++ piece_at others.now at ∷ []) }
+    {
+        self.push(
+            others.kind(at),
+            others.text(at),
+            others.line(at),
+            others.is_frozen(at),
+        )
+    }
+
+    /// Adds a piece of others on another line, not frozen.
+    pub fn push_on(&mut self, others: &Pieces, at: usize, line: u32) -> Result<(), OutOfMemory>
+        requires { at < length others.now }
+        ensures { OnOk result (self.new ≡ self.old ++ on_line line (piece_at others.now at) ∷ []) }
+    {
+        self.push(others.kind(at), others.text(at), line, false)
+    }
+
+    /// Adds a piece of others, frozen.
+    pub fn push_frozen(&mut self, others: &Pieces, at: usize) -> Result<(), OutOfMemory>
+        requires { at < length others.now }
+        ensures { OnOk result (self.new ≡ self.old ++ froze (piece_at others.now at) ∷ []) }
+    {
+        self.push(others.kind(at), others.text(at), others.line(at), true)
+    }
+
+    /// Adds others.
+    pub fn append(&mut self, others: &Pieces) -> Result<(), OutOfMemory>
+        ensures { OnOk result (self.new ≡ self.old ++ others.now) }
+    {
+        for at in 0..others.len() {
+            self.push_same(others, at)?;
+        }
+        Ok(())
+    }
+
+    /// Adds those of others between two places.
+    pub fn append_between(
+        &mut self,
+        others: &Pieces,
+        from: usize,
+        end: usize,
+    ) -> Result<(), OutOfMemory>
+        requires order { from ≤ end }
+        requires inside { end ≤ length others.now }
+        ensures { OnOk result (self.new ≡ self.old ++ between from end others.now) }
+    {
+        'pieces: for at in from..end {
+            self.push_same(others, at)?;
+        }
+        Ok(())
+    }
+}

@@ -1,0 +1,143 @@
+// The pieces of a text with their lines, and the lines that are directives.
+
+ghost use Rattle.std.specs.Prelude.{◌≡◌, ◌+◌, ◌-◌, ◌<◌, ◌≤◌, ◌==◌, ◌&&◌, ◌^◌, slice_index, not, true, false, length, drop, IfOk, IfSome};
+ghost use Rattle.lg_macro.specs.Pieces.{piece_at, is_feed};
+ghost use Rattle.lg_macro.specs.Text.{is_comment, feeds_of, text_pieces, ends_with_slash, line_len, marks_line, begins_directive, mark_in};
+
+use crate::cutting::front_of;
+use crate::pieces::{PieceKind, Pieces};
+use lg_base::OutOfMemory;
+use lg_lex::bytes::{ahead, behind};
+use std::alloc::Global;
+
+// How many line feeds bytes have.
+fn feeds_of(text: &[u8]) -> usize
+    ensures value { result ≡ feeds_of text.now }
+    ensures few { result ≤ length text.now }
+{
+    text.iter().filter(|b| **b == b'\n').count()
+}
+
+// The line behind a piece that begins on a line.
+fn line_behind(line: u32, piece: &[u8]) -> u32
+    requires { line + length piece.now < 2 ^ 32 }
+    ensures value { result ≡ line + feeds_of piece.now }
+    ensures few { result ≤ line + length piece.now }
+{
+    line + feeds_of(piece) as u32
+}
+
+/// The pieces of a text, each with the line of its first byte.
+pub fn text_pieces(alloc: Global, text: &[u8]) -> Result<Pieces, OutOfMemory>
+    requires { length text.now ≤ 16777216 }
+    ensures { IfOk result (λ r. r ≡ text_pieces (length text.now) 1 text.now) }
+{
+    let mut out = Pieces::new(alloc);
+    let end = text.len();
+    let mut at = 0;
+    let mut line: u32 = 1;
+    'pieces: while at < end {
+        let rest = behind(text, at);
+        let (kind, n) = front_of(rest);
+        let piece = ahead(rest, n);
+        out.push(kind, piece, line, false)?;
+        line = line_behind(line, piece);
+        at += n;
+    }
+    Ok(out)
+}
+
+// Whether a piece ends with a backslash.
+fn ends_with_slash(text: &[u8]) -> bool
+    ensures { result ≡ (slice_index text.now (length text.now - 1) == 92) }
+{
+    match text.last() {
+        None => false,
+        Some(b) => *b == b'\\',
+    }
+}
+
+// Whether a line ends with a piece.
+fn ends_line(pieces: &Pieces, at: usize, goes_on: bool, slash: bool) -> bool
+    requires { at < length pieces.now }
+    ensures { result ≡ (is_feed (piece_at pieces.now at).kind && not (goes_on && slash)) }
+{
+    pieces.kind(at).is_feed() && !(goes_on && slash)
+}
+
+/// How many pieces a line has, its line feed included. One that goes on does so over each line feed with a backslash directly before it.
+pub fn line_len(pieces: &Pieces, from: usize, goes_on: bool) -> usize
+    requires { from < length pieces.now }
+    ensures value { result ≡ line_len goes_on false (drop from pieces.now) }
+    ensures inside { from + result ≤ length pieces.now }
+    ensures some { 0 < result }
+{
+    let end = pieces.len();
+    let mut n = 0;
+    let mut slash = false;
+    'line: while from + n < end {
+        if ends_line(pieces, from + n, goes_on, slash) {
+            return n + 1;
+        }
+        slash = ends_with_slash(pieces.text(from + n));
+        n += 1;
+    }
+    n
+}
+
+// Whether a number comes next, but for spaces.
+fn marks_line(pieces: &Pieces, from: usize) -> bool
+    requires { from ≤ length pieces.now }
+    ensures { result ≡ marks_line (drop from pieces.now) }
+{
+    let end = pieces.len();
+    let mut at = from;
+    'spaces: while at < end {
+        let kind = pieces.kind(at);
+        if !kind.is_byte(b' ') {
+            return kind.is_number();
+        }
+        at += 1;
+    }
+    false
+}
+
+// Whether a piece is the `#` of a directive.
+fn begins_directive(pieces: &Pieces, at: usize, fresh: bool) -> bool
+    requires { at < length pieces.now }
+    ensures { result ≡ begins_directive fresh (piece_at pieces.now at) (drop (at + 1) pieces.now) }
+{
+    let _end = pieces.len();
+    pieces.kind(at).is_byte(b'#') && !(fresh && marks_line(pieces, at + 1))
+}
+
+// Whether only spaces and tabs stand before what follows a piece.
+fn still_fresh(fresh: bool, kind: PieceKind) -> bool
+    ensures { result ≡ (fresh && not (is_comment kind)) }
+{
+    fresh && !kind.is_comment()
+}
+
+/// The pieces before the `#` of a directive, where the line that begins at a place is one.
+pub fn mark_in(pieces: &Pieces, from: usize) -> Option<usize>
+    requires { from ≤ length pieces.now }
+    ensures value { result ≡ mark_in true (drop from pieces.now) }
+    ensures inside { IfSome result (λ n. from + n < length pieces.now) }
+{
+    let end = pieces.len();
+    let mut n = 0;
+    let mut fresh = true;
+    'margin: while from + n < end {
+        let kind = pieces.kind(from + n);
+        if !kind.is_margin() {
+            return if begins_directive(pieces, from + n, fresh) {
+                Some(n)
+            } else {
+                None
+            };
+        }
+        fresh = still_fresh(fresh, kind);
+        n += 1;
+    }
+    None
+}

@@ -1,6 +1,0 @@
-use Rattle.std.proofs.Common.{◌≡◌, drop, fold}
-use Rattle.lg_pre.specs.Defines.{with_piece, body_of}
-use Rattle.lg_pre.proofs.body.body_of.Given as goal
-
-abbrev pub invariant-pieces : goal.invariant-pieces
-invariant-pieces l = fold (with_piece l.names) l.body (drop l.at l.pieces) ≡ body_of l.names l.pieces

@@ -1,7 +1,0 @@
-use Rattle.std.proofs.Common.{◌≡◌, ◌++◌}
-use Rattle.lg_pre.specs.Defines.{spliced}
-use Rattle.lg_pre.specs.Pieces.{between}
-use Rattle.lg_pre.proofs.defines.spliced.Given as goal
-
-abbrev pub invariant-pieces : goal.invariant-pieces
-invariant-pieces l = l.out ++ spliced (between l.at l.end l.pieces) ≡ spliced (between l.from l.end l.pieces)

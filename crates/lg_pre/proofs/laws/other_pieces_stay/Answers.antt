@@ -1,5 +1,0 @@
-use Rattle.lg_pre.proofs.ReplacementLemmas.{others-stay}
-use Rattle.lg_pre.proofs.laws.other_pieces_stay.Goals as goal
-
-pub returns : goal.returns
-returns c = others-stay

@@ -1,5 +1,0 @@
-use Rattle.lg_pre.proofs.CallLaws.{pasted-bodies}
-use Rattle.lg_pre.proofs.laws.pasted_bodies_replace_names.Goals as goal
-
-pub returns : goal.returns
-returns c = pasted-bodies

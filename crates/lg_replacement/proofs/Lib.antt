@@ -1,0 +1,4 @@
+pub mod ArgumentLaws
+pub mod CallLaws
+pub mod ExpansionLemmas
+pub mod ReplacementLemmas
