@@ -185,7 +185,3 @@ register-keeps o d a b w r ne link = write-other w.registers d _ r ne
 pub register-computes : (o : BinaryOp) (d a b : ℕ) → all_compute (register_code o d a b) ≡ true
 register-computes binary.Add d a b = refl
 register-computes o d a b = refl
-
-pub register-some : (o : BinaryOp) (d a b : ℕ) → 0 < length (register_code o d a b)
-register-some binary.Add d a b = omega arith
-register-some o d a b = omega arith

@@ -57,6 +57,6 @@ is-load addresses t (operand.Label l) within a h =
       code = Wide Movz t (low_quarter v) 0 ∷ Wide Movk t (next_quarter v) 1 ∷ [];
       settles = λ at. refl;
       word = v;
-      loads = record { computes = refl; value = λ w. address-loaded t v within h w; some = omega arith; small = omega (arith, h) };
+      loads = record { computes = refl; value = λ w. address-loaded t v within h w; small = omega (arith, h) };
       given = λ s. refl;
     }

@@ -20,16 +20,11 @@ pub all-compute-append : (xs ys : List Instr) → all_compute xs ≡ true → al
 all-compute-append [] ys h k = k
 all-compute-append (x ∷ xs) ys h k = let b = and_parts (computes x) (all_compute xs) h in ap (λ z. z && all_compute (xs ++ ys)) b.0 ∙ all-compute-append xs ys b.1 k
 
-pub longer : (xs ys : List Instr) → 0 < length xs → 0 < length (xs ++ ys)
-longer [] ys h = absurd (omega (arith, h))
-longer (x ∷ xs) ys h = omega arith
-
 -- the code puts a word into register t, and changes no other, and no flag
 pub record LoadsWord (load : List Instr) (t v : ℕ) : Type 0 where
   pub computes : all_compute load ≡ true
   pub value : (w : Held) → computed load w ≡ holding (put w.registers t v) w.flags
-  pub some : 0 < length load
   pub small : v < 2 ^ 64
 
 pub loads-number : (t v : ℕ) → t < 31 → v < 2 ^ 64 → LoadsWord (number_code t v) t v
-loads-number t v within small = let l : LoadsNumber t v = numbers-are-loaded t v within small in record { computes = l.computes; value = l.value; some = l.some; small = small }
+loads-number t v within small = let l : LoadsNumber t v = numbers-are-loaded t v within small in record { computes = l.computes; value = l.value; small = small }

@@ -30,15 +30,14 @@ use Rattle.lg_sela_values.specs.Processor.Computations.{all_compute, holding, co
 use Rattle.lg_sela_values.proofs.OfProcessor.ComputerLemmas.{into, carry-stays}
 use Rattle.lg_sela_values.proofs.OfProcessor.HeldLemmas.{put-same, put-other}
 use Rattle.lg_sela_values.specs.BinaryCode.{register_code}
-use Rattle.lg_sela_values.proofs.BinaryCodeLemmas.{IsApartFor, register-value, carried-holds, register-keeps, register-computes, register-some}
-use Rattle.lg_sela_values.proofs.LoadCodeLemmas.{put-small, all-compute-append, longer, LoadsWord}
+use Rattle.lg_sela_values.proofs.BinaryCodeLemmas.{IsApartFor, register-value, carried-holds, register-keeps, register-computes}
+use Rattle.lg_sela_values.proofs.LoadCodeLemmas.{put-small, all-compute-append, LoadsWord}
 
 abbrev pub AreWords : Held → Type 0
 AreWords w = (r : ℕ) → w.registers r < 2 ^ 64
 
 -- code that makes d = a op y, of what registers and flags hold before it, and keeps each register but d, temporaries and the link
 pub record Makes (o : BinaryOp) (d a : ℕ) (y : Held → ℕ) (choices : List Choice) (body : List Instr) : Type 0 where
-  pub some : 0 < length body
   pub computes : all_compute body ≡ true
   pub keeps : (w : Held) (r : ℕ) → r ≢ d → r ≢ link → is_taken choices r ≡ false → (computed body w).registers r ≡ w.registers r
   pub word : (w : Held) (z : ℕ) → AreWords w → sets_carry o ≡ false → binary_value o (w.registers a) (y w) ≡ Some z → (computed body w).registers d ≡ z
@@ -57,10 +56,10 @@ module _ (c : Code) (i : ℕ) (o : BinaryOp) (last : LastOperand) (d a : Reg) (x
     where
       by : (b : Bool) → sets_carry o ≡ b → IsComputed c i (binary_node o last d a x line) choices body
       by false plain code trash = binary-nodes-compute (a64_computer code trash) a64_scratch c i o last d a x line choices body plain named t
-          (into code trash (d ∷ []) choices body record { some = m.some; computes = m.computes; keeps = λ w r apart taken off. m.keeps w r apart.0 off taken })
+          (into code trash (d ∷ []) choices body record { computes = m.computes; keeps = λ w r apart taken off. m.keeps w r apart.0 off taken })
           (λ s w p k z h ep ek ez. m.word w z h.words plain ((λ j. binary_value o (ep j) (gives s w k h ek j)) ∙ ez))
       by true carries code trash = carried-nodes-compute (a64_computer code trash) a64_scratch c i o last d a x line choices body carries named t
-          (into code trash (d ∷ []) choices body record { some = m.some; computes = m.computes; keeps = λ w r apart taken off. m.keeps w r apart.0 off taken })
+          (into code trash (d ∷ []) choices body record { computes = m.computes; keeps = λ w r apart taken off. m.keeps w r apart.0 off taken })
           (λ s w p k bit h ep ek eb.
           let holds = m.carried w s.carry bit h.words carries eb h.carry in
           subst (λ z. HoldsWithCarry Aarch64 o rd p z (bit_word bit) (computed body w)) (gives s w k h ek)
@@ -69,7 +68,6 @@ module _ (c : Code) (i : ℕ) (o : BinaryOp) (last : LastOperand) (d a : Reg) (x
 -- ---- two registers
 pub register-makes : (o : BinaryOp) (d a b : ℕ) → d < 31 → a < 30 → b < 31 → IsApartFor o b → Makes o d a (λ w. w.registers b) [] (register_code o d a b)
 register-makes o d a b dl al bl apart = record {
-  some = register-some o d a b;
   computes = register-computes o d a b;
   keeps = λ w r ne off taken. register-keeps o d a b w r ne off;
   word = λ w z words plain e. register-value d a b dl al bl w (words a) (words b) o z plain apart e;
@@ -84,7 +82,6 @@ module _ (o : BinaryOp) (d a t v : ℕ) (dl : d < 31) (al : a < 30) (tl : t < 31
 
   pub loaded-makes : Makes o d a (λ w. v) choices (load ++ register_code o d a t)
   loaded-makes = record {
-    some = longer load (register_code o d a t) l.some;
     computes = all-compute-append load (register_code o d a t) l.computes (register-computes o d a t);
     keeps = λ w r ne no taken. ap (λ u. u.registers r) (before w) ∙ register-keeps o d a t (holding (put w.registers t v) w.flags) r ne no ∙ put-other w.registers t v r (off r taken no);
     word = λ w z words plain e.

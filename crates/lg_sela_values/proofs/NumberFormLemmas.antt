@@ -35,13 +35,12 @@ pub record IsSecond (o : BinaryOp) (a t : ℕ) (choices : List Choice) : Type 0 
 
 -- ---- code for one operation is code for it with fewer temporaries
 pub with-choices : (o : BinaryOp) (d a : ℕ) (y : Held → ℕ) (choices : List Choice) (body : List Instr) → Makes o d a y [] body → Makes o d a y choices body
-with-choices o d a y choices body m = record { some = m.some; computes = m.computes; keeps = λ w r ne off taken. m.keeps w r ne off refl; word = m.word; carried = m.carried }
+with-choices o d a y choices body m = record { computes = m.computes; keeps = λ w r ne off taken. m.keeps w r ne off refl; word = m.word; carried = m.carried }
 
 -- ---- shifts
 shift-makes : (o : BinaryOp) (op : BitfieldOp) (d a v immr imms : ℕ) → d < 31 → a < 31 → (sets_carry o ≡ true → ⊥)
     → ((x z : ℕ) → x < 2 ^ 64 → binary_value o x v ≡ Some z → bitfield_value op x immr imms ≡ z) → Makes o d a (λ w. v) [] (Bitfield op d a immr imms ∷ [])
 shift-makes o op d a v immr imms dl al plain is = record {
-  some = omega arith;
   computes = refl;
   keeps = λ w r ne off taken. write-other w.registers d _ r ne;
   word = λ w z words p e. write-same w.registers d (bitfield_value op (read w.registers a) immr imms) dl ∙ ap (λ x. bitfield_value op x immr imms) (read-is w.registers a al) ∙ is (w.registers a) z (words a) e;

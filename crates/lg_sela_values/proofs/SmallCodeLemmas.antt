@@ -86,10 +86,6 @@ small-computes : (o : BinaryOp) (d a v : ℕ) → all_compute (small_code o d a 
 small-computes binary.Add d a v = refl
 small-computes o d a v = refl
 
-small-some : (o : BinaryOp) (d a v : ℕ) → 0 < length (small_code o d a v)
-small-some binary.Add d a v = omega arith
-small-some o d a v = omega arith
-
 negative-keeps : (o : BinaryOp) (d a v : ℕ) (w : Held) (r : ℕ) → r ≢ d → (computed (negative_code o d a v) w).registers r ≡ w.registers r
 negative-keeps binary.Add d a v w r ne = put-other w.registers d _ r ne
 negative-keeps o d a v w r ne = put-other w.registers d _ r ne
@@ -98,13 +94,8 @@ negative-computes : (o : BinaryOp) (d a v : ℕ) → all_compute (negative_code 
 negative-computes binary.Add d a v = refl
 negative-computes o d a v = refl
 
-negative-some : (o : BinaryOp) (d a v : ℕ) → 0 < length (negative_code o d a v)
-negative-some binary.Add d a v = omega arith
-negative-some o d a v = omega arith
-
 pub small-makes : (o : BinaryOp) (d a v : ℕ) → d < 31 → v < 2 ^ 64 → takes_small o ≡ true → Makes o d a (λ w. v) [] (small_code o d a v)
 small-makes o d a v dl small takes = record {
-  some = small-some o d a v;
   computes = small-computes o d a v;
   keeps = λ w r ne off taken. small-keeps o d a v w r ne;
   word = λ w z words plain e. small-value d a v dl w (words a) small o z takes plain e;
@@ -118,7 +109,6 @@ plain-negative o h k = cc
 
 pub negative-makes : (o : BinaryOp) (d a v : ℕ) → d < 31 → v < 2 ^ 64 → takes_negative o ≡ true → Makes o d a (λ w. v) [] (negative_code o d a v)
 negative-makes o d a v dl small takes = record {
-  some = negative-some o d a v;
   computes = negative-computes o d a v;
   keeps = λ w r ne off taken. negative-keeps o d a v w r ne;
   word = λ w z words plain e. negative-value d a v dl w (words a) small o z takes e;

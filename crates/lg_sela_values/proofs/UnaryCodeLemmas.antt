@@ -78,7 +78,3 @@ unary-keeps o d a w r ne = write-other w.registers d _ r ne
 pub unary-computes : (o : UnaryOp) (d a : ℕ) → all_compute (unary_code o d a) ≡ true
 unary-computes unary.Neg d a = refl
 unary-computes o d a = refl
-
-pub unary-some : (o : UnaryOp) (d a : ℕ) → 0 < length (unary_code o d a)
-unary-some unary.Neg d a = omega arith
-unary-some o d a = omega arith

@@ -25,7 +25,7 @@ use Rattle.lg_sela_values.proofs.OfProcessor.RegisterLemmas.{register-small}
 use Rattle.lg_carry.proofs.OfValues.ValueNodeLemmas.{extends}
 use Rattle.lg_sela_values.specs.UnaryCode.{unary_code, retval_code}
 use Rattle.lg_sela_values.proofs.LoadCodeLemmas.{LoadsWord}
-use Rattle.lg_sela_values.proofs.UnaryCodeLemmas.{unary-computed, unary-keeps, unary-computes, unary-some}
+use Rattle.lg_sela_values.proofs.UnaryCodeLemmas.{unary-computed, unary-keeps, unary-computes}
 
 -- ---- of a register; `movr` keeps the carry, and its code does
 moved : (code : List ℕ) (trash : ℕ) (o : UnaryOp) (d a : ℕ) → keeps_carry o ≡ true → KeepsCarry (a64_computer code trash) (unary_code o d a)
@@ -42,7 +42,7 @@ unary-node-computes c i o d a line named t code trash =
     let dl = register-small d in
     let al = register-small a in
     unary-nodes-compute (a64_computer code trash) a64_scratch c i o d a line [] body named t
-    (into code trash (d ∷ []) [] body record { some = unary-some o rd ra; computes = unary-computes o rd ra; keeps = λ w r apart taken off. unary-keeps o rd ra w r apart.0 })
+    (into code trash (d ∷ []) [] body record { computes = unary-computes o rd ra; keeps = λ w r apart taken off. unary-keeps o rd ra w r apart.0 })
     (λ e. moved code trash o rd ra e)
     (λ s w m h em. unary-computed rd ra (omega (arith, dl)) (omega (arith, al)) w o ∙ ap (unary_value o) em)
 
@@ -52,7 +52,6 @@ pub movi-computes : (c : Code) (i : ℕ) (d : Reg) (x : Operand) (v line : ℕ) 
 movi-computes c i d x v line named given t load l code trash =
     movi-nodes-compute (a64_computer code trash) a64_scratch c i d x v line [] load named given t
     (into code trash (d ∷ []) [] load record {
-      some = l.some;
       computes = l.computes;
       keeps = λ w r apart taken off. ap (λ u. u.registers r) (l.value w) ∙ put-other w.registers (register_of Aarch64 d) v r apart.0;
     })
@@ -64,7 +63,6 @@ pub va-start-computes : (c : Code) (i : ℕ) (d : Reg) (k line : ℕ) → d ≢ 
 va-start-computes c i d k line named t load l code trash =
     va-start-nodes-compute (a64_computer code trash) a64_scratch c i d k line [] load named t
     (into code trash (d ∷ []) [] load record {
-      some = l.some;
       computes = l.computes;
       keeps = λ w r apart taken off. ap (λ u. u.registers r) (l.value w) ∙ put-other w.registers (register_of Aarch64 d) k r apart.0;
     })
@@ -77,5 +75,5 @@ retval-computes c i t d line named x code trash =
     let dl = register-small d in
     let body = retval_code t rd in
     retval-nodes-compute (a64_computer code trash) a64_scratch c i t d line [] body named x
-    (into code trash (d ∷ []) [] body record { some = unary-some (extension t) rd 0; computes = unary-computes (extension t) rd 0; keeps = λ w r apart taken off. unary-keeps (extension t) rd 0 w r apart.0 })
+    (into code trash (d ∷ []) [] body record { computes = unary-computes (extension t) rd 0; keeps = λ w r apart taken off. unary-keeps (extension t) rd 0 w r apart.0 })
     (λ w words. unary-computed rd 0 (omega (arith, dl)) (omega arith) w (extension t) ∙ extends t (w.registers 0))

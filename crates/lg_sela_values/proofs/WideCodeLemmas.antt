@@ -80,7 +80,3 @@ wide-keeps wide.DivU d e a b w r nd ne nl = kept w.registers _ _ _ d e r nd ne n
 pub wide-computes : (o : WideOp) (d e a b : ℕ) → all_compute (wide_code o d e a b) ≡ true
 wide-computes wide.Mul d e a b = refl
 wide-computes o d e a b = refl
-
-pub wide-some : (o : WideOp) (d e a b : ℕ) → 0 < length (wide_code o d e a b)
-wide-some wide.Mul d e a b = omega arith
-wide-some o d e a b = omega arith

@@ -30,8 +30,8 @@ use Rattle.lg_sela_values.proofs.OfProcessor.HeldLemmas.{put-same, put-other}
 use Rattle.lg_sela_values.proofs.OfProcessor.RegisterLemmas.{register-small, register-off-link}
 use Rattle.lg_sela_values.specs.WideCode.{wide_code, wide_by_link}
 use Rattle.lg_sela_values.proofs.BinaryCodeLemmas.{some-same}
-use Rattle.lg_sela_values.proofs.LoadCodeLemmas.{LoadsWord, put-small, longer, all-compute-append}
-use Rattle.lg_sela_values.proofs.WideCodeLemmas.{wide-value, wide-keeps, wide-computes, wide-some}
+use Rattle.lg_sela_values.proofs.LoadCodeLemmas.{LoadsWord, put-small, all-compute-append}
+use Rattle.lg_sela_values.proofs.WideCodeLemmas.{wide-value, wide-keeps, wide-computes}
 use Rattle.lg_sela_values.proofs.WideLinkLemmas.{link-value, link-keeps, link-computes}
 
 module _ (c : Code) (i : ℕ) (o : WideOp) (d e a : Reg) (line : ℕ) (nd : d ≢ Fp) (ne : e ≢ Fp) (apart : d ≢ e) where
@@ -50,7 +50,7 @@ module _ (c : Code) (i : ℕ) (o : WideOp) (d e a : Reg) (line : ℕ) (nd : d �
       let rb = register_of Aarch64 b in
       let body = wide_code o rd re ra rb in
       wide-nodes-compute (a64_computer code trash) a64_scratch c i o last_operand.Register d e a (operand.Reg b) line [] body nd ne apart t
-      (into code trash (d ∷ e ∷ []) [] body record { some = wide-some o rd re ra rb; computes = wide-computes o rd re ra rb; keeps = λ w r x taken off. wide-keeps o rd re ra rb w r x.0 x.1.0 off })
+      (into code trash (d ∷ e ∷ []) [] body record { computes = wide-computes o rd re ra rb; keeps = λ w r x taken off. wide-keeps o rd re ra rb w r x.0 x.1.0 off })
       (λ s w m k p h em ek ez.
       let eb : w.registers rb ≡ k = h.registers b k (λ z. or_left _ false (or_left _ false (or_left _ (is_same a b) (same-self b z)))) ek in
       let same : wide_value o (w.registers ra) (w.registers rb) ≡ wide_value o m k = (λ j. wide_value o (em j) (eb j)) in
@@ -63,7 +63,6 @@ module _ (c : Code) (i : ℕ) (o : WideOp) (d e a : Reg) (line : ℕ) (nd : d �
       let body = load ++ wide_by_link o rd re ra in
       wide-nodes-compute (a64_computer code trash) a64_scratch c i o last_operand.Immediate d e a x line [] body nd ne apart t
       (into code trash (d ∷ e ∷ []) [] body record {
-        some = longer load (wide_by_link o rd re ra) l.some;
         computes = all-compute-append load (wide_by_link o rd re ra) l.computes (link-computes o rd re ra);
         keeps = λ w r x taken off. ap (λ u. u.registers r) (before w) ∙ link-keeps o rd re ra (holding (put w.registers link v) w.flags) r x.0 x.1.0 off ∙ put-other w.registers link v r off;
       })

@@ -16,7 +16,7 @@ use Rattle.lg_selr_values.specs.Processor.Computations.{all_compute, computed}
 use Rattle.lg_selr_values.specs.Processor.Numbers.{is_short, low_part, number_code}
 use Rattle.lg_selr_values.proofs.OfProcessor.ComputationLemmas.{read-put, read-other, put-other, computed-append, all-compute-append}
 use Rattle.lg_selr_values.proofs.OfProcessor.NumberCodeLemmas.{short-word}
-use Rattle.lg_selr_values.proofs.LoadCodeLemmas.{read-small, puts, puts-again, some-same, LoadsWord, put-small, loads-number, longer}
+use Rattle.lg_selr_values.proofs.LoadCodeLemmas.{read-small, puts, puts-again, some-same, LoadsWord, put-small, loads-number}
 use Rattle.lg_selr_values.specs.BinaryCode.{register_code, is_addend, loaded_code, zero_or_loaded_code, equal_code, unequal_code, held_code, held_or_loaded_code, number_form_code}
 
 -- ---- words
@@ -115,13 +115,6 @@ register-keeps o d a b w r ne = put-other w d _ r ne
 pub register-computes : (o : BinaryOp) (d a b : ℕ) → all_compute (register_code o d a b) ≡ true
 register-computes binary.Add d a b = refl
 register-computes o d a b = refl
-
-pub register-some : (o : BinaryOp) (d a b : ℕ) → sets_carry o ≡ false → 0 < length (register_code o d a b)
-register-some binary.Addc d a b h = cc
-register-some binary.Subc d a b h = cc
-register-some binary.Addx d a b h = cc
-register-some binary.Subx d a b h = cc
-register-some o d a b h = omega arith
 
 -- ---- from a register and a word that is loaded into the link
 module _ (load : List Instr) (v : ℕ) (l : LoadsWord load 1 v) (d a : ℕ) (w : ℕ → ℕ) (o : BinaryOp) where
@@ -349,32 +342,3 @@ number-computes binary.LeU d a v small = either-computes (v == 0) _ _ (register-
 number-computes binary.Gt d a v small = either-computes (v == 0) _ _ (register-computes binary.Gt d a 0) (loaded-computes binary.Gt d a v small)
 number-computes binary.GtU d a v small = either-computes (v == 0) _ _ (register-computes binary.GtU d a 0) (loaded-computes binary.GtU d a v small)
 number-computes o d a v small = loaded-computes o d a v small
-
-loaded-some : (o : BinaryOp) (d a v : ℕ) → v < 2 ^ 64 → 0 < length (loaded_code o d a v)
-loaded-some o d a v small = longer (number_code 1 v) (register_code o d a 1) (loads-number 1 v (λ n. absurd (omega (arith, n))) (omega arith) small).some
-
-either-some : (b : Bool) (xs ys : List Instr) → 0 < length xs → 0 < length ys → 0 < length (if b then xs else ys)
-either-some true xs ys h k = h
-either-some false xs ys h k = k
-
-pub number-some : (o : BinaryOp) (d a v : ℕ) → v < 2 ^ 64 → 0 < length (number_form_code o d a v)
-number-some binary.Add d a v small = either-some (is_addend v) _ _ (omega arith) (loaded-some binary.Add d a v small)
-number-some binary.Sub d a v small = either-some (is_addend v) _ _ (omega arith) (loaded-some binary.Sub d a v small)
-number-some binary.Rsb d a v small = either-some (is_addend v) _ _ (omega arith) (loaded-some binary.Rsb d a v small)
-number-some binary.And d a v small = either-some (is_addend v) _ _ (omega arith) (loaded-some binary.And d a v small)
-number-some binary.Or d a v small = either-some (is_addend v) _ _ (omega arith) (loaded-some binary.Or d a v small)
-number-some binary.Xor d a v small = either-some (is_addend v) _ _ (omega arith) (loaded-some binary.Xor d a v small)
-number-some binary.Lt d a v small = either-some (is_addend v) _ _ (omega arith) (loaded-some binary.Lt d a v small)
-number-some binary.LtU d a v small = either-some (is_addend v) _ _ (omega arith) (loaded-some binary.LtU d a v small)
-number-some binary.Ge d a v small = either-some (is_addend v) _ _ (omega arith) (loaded-some binary.Ge d a v small)
-number-some binary.GeU d a v small = either-some (is_addend v) _ _ (omega arith) (loaded-some binary.GeU d a v small)
-number-some binary.Eq d a v small = either-some (is_addend v) _ _ (either-some (v == 0) _ _ (omega arith) (omega arith)) (loaded-some binary.Eq d a v small)
-number-some binary.Ne d a v small = either-some (is_addend v) _ _ (either-some (v == 0) _ _ (omega arith) (omega arith)) (loaded-some binary.Ne d a v small)
-number-some binary.Lsh d a v small = omega arith
-number-some binary.Rsh d a v small = omega arith
-number-some binary.RshU d a v small = omega arith
-number-some binary.Le d a v small = either-some (v == 0) _ _ (omega arith) (loaded-some binary.Le d a v small)
-number-some binary.LeU d a v small = either-some (v == 0) _ _ (omega arith) (loaded-some binary.LeU d a v small)
-number-some binary.Gt d a v small = either-some (v == 0) _ _ (omega arith) (loaded-some binary.Gt d a v small)
-number-some binary.GtU d a v small = either-some (v == 0) _ _ (omega arith) (loaded-some binary.GtU d a v small)
-number-some o d a v small = loaded-some o d a v small

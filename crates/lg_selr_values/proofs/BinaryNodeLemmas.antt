@@ -23,8 +23,8 @@ use Rattle.lg_selr_values.proofs.OfProcessor.RegisterLemmas.{register-apart, reg
 use Rattle.lg_carry.proofs.OfNodes.RegisterLemmas.{same-self}
 use Rattle.lg_selr_values.specs.BinaryCode.{register_code, number_form_code}
 use Rattle.lg_carry.specs.Values.ValueNodes.{binary_node}
-use Rattle.lg_selr_values.proofs.LoadCodeLemmas.{some-same, LoadsWord, longer}
-use Rattle.lg_selr_values.proofs.BinaryCodeLemmas.{register-value, register-keeps, register-computes, register-some, loaded-value, loaded-keeps, number-value, number-keeps, number-computes, number-some}
+use Rattle.lg_selr_values.proofs.LoadCodeLemmas.{some-same, LoadsWord}
+use Rattle.lg_selr_values.proofs.BinaryCodeLemmas.{register-value, register-keeps, register-computes, loaded-value, loaded-keeps, number-value, number-keeps, number-computes}
 use Rattle.lg_carry.proofs.OfValues.OneResultLemmas.{binary-nodes-compute}
 
 -- ---- two registers
@@ -42,7 +42,7 @@ module _ (c : Code) (i : ℕ) (o : BinaryOp) (d a b : Reg) (line : ℕ) (plain :
   registers-compute code trash =
       let body = register_code o rd ra rb in
       binary-nodes-compute (rv_computer code trash) rv_scratch c i o last_operand.Register d a (operand.Reg b) line [] body plain named t
-      (into code trash (d ∷ []) [] body record { some = register-some o rd ra rb plain; computes = register-computes o rd ra rb; keeps = λ w r apart taken link carry. register-keeps o rd ra rb w r apart.0 })
+      (into code trash (d ∷ []) [] body record { computes = register-computes o rd ra rb; keeps = λ w r apart taken link carry. register-keeps o rd ra rb w r apart.0 })
       (λ s w m k z h em ek ez.
       let ea : read w.registers ra ≡ m = read-of w.registers a ∙ em in
       let eb : read w.registers rb ≡ k = read-of w.registers b ∙ h.registers b k (λ ne. ap (λ z. (z || is_same a b) || false) (same-self b ne)) ek in
@@ -70,7 +70,7 @@ module _ (c : Code) (i : ℕ) (o : BinaryOp) (d a : Reg) (x : Operand) (v line :
   number-computed small code trash =
       let body = number_form_code o to from v in
       binary-nodes-compute (rv_computer code trash) rv_scratch c i o last_operand.Immediate d a x line [] body plain named t
-      (into code trash (d ∷ []) [] body record { some = number-some o to from v small; computes = number-computes o to from v small; keeps = λ w r apart taken link carry. number-keeps o to from v small w r apart.0 link })
+      (into code trash (d ∷ []) [] body record { computes = number-computes o to from v small; keeps = λ w r apart taken link carry. number-keeps o to from v small w r apart.0 link })
       (λ s w m k z h em ek ez. held-at body w to z (number-value to from v (register-nonzero d) (register-apart a).0 small w.registers h.words o z plain (same-value s w.registers m k z em ek ez)))
 
   -- any other word, which is loaded into the link
@@ -79,7 +79,6 @@ module _ (c : Code) (i : ℕ) (o : BinaryOp) (d a : Reg) (x : Operand) (v line :
       let body = load ++ register_code o to from 1 in
       binary-nodes-compute (rv_computer code trash) rv_scratch c i o last_operand.Immediate d a x line [] body plain named t
       (into code trash (d ∷ []) [] body record {
-        some = longer load (register_code o to from 1) l.some;
         computes = all-compute-append load (register_code o to from 1) l.computes (register-computes o to from 1);
         keeps = λ w r apart taken link carry. loaded-keeps load v l to from w o r apart.0 link;
       })

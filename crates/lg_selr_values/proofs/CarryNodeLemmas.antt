@@ -36,7 +36,7 @@ use Rattle.lg_selr_values.proofs.OfProcessor.ComputationLemmas.{computed-append,
 use Rattle.lg_selr_values.proofs.OfProcessor.RegisterLemmas.{register-apart, register-nonzero, read-of}
 use Rattle.lg_selr_values.specs.CarryCode.{carry_code}
 use Rattle.lg_carry.specs.Values.ValueNodes.{binary_node}
-use Rattle.lg_selr_values.proofs.LoadCodeLemmas.{some-same, read-small, LoadsWord, longer}
+use Rattle.lg_selr_values.proofs.LoadCodeLemmas.{some-same, read-small, LoadsWord}
 use Rattle.lg_selr_values.proofs.CarryCodeLemmas.{IsOtherThan, addc-holds, subc-holds, addx-holds, subx-holds, carried-keeps, carried-computes}
 use Rattle.lg_carry.proofs.OfValues.OneResultLemmas.{carried-nodes-compute}
 use Rattle.lg_selr_values.proofs.UnaryCodeLemmas.{add-none}
@@ -103,14 +103,13 @@ pub record PutsSecond (second : List Instr) (y : (ℕ → ℕ) → ℕ) : Type 0
   pub computes : all_compute second ≡ true
   pub value : (w : ℕ → ℕ) → ((r : ℕ) → w r < 2 ^ 64) → computed second w ≡ put w 1 (y w)
   pub keeps : (w : ℕ → ℕ) (r : ℕ) → r ≢ 1 → computed second w r ≡ w r
-  pub some : 0 < length second
   pub small : (w : ℕ → ℕ) → ((r : ℕ) → w r < 2 ^ 64) → y w < 2 ^ 64
 
 pub second-register : (b : ℕ) → PutsSecond (Imm Addi 1 b (pos 0) ∷ []) (λ w. read w b)
-second-register b = record { computes = refl; value = λ w words. ap (put w 1) (add-none (read w b) (read-small w b words)); keeps = λ w r ne. put-other w 1 _ r ne; some = omega arith; small = λ w words. read-small w b words }
+second-register b = record { computes = refl; value = λ w words. ap (put w 1) (add-none (read w b) (read-small w b words)); keeps = λ w r ne. put-other w 1 _ r ne; small = λ w words. read-small w b words }
 
 pub second-loaded : (load : List Instr) (v : ℕ) → LoadsWord load 1 v → PutsSecond load (λ w. v)
-second-loaded load v l = record { computes = l.computes; value = λ w words. l.value w; keeps = λ w r ne. ap (λ u. u r) (l.value w) ∙ put-other w 1 v r ne; some = l.some; small = λ w words. l.small }
+second-loaded load v l = record { computes = l.computes; value = λ w words. l.value w; keeps = λ w r ne. ap (λ u. u r) (l.value w) ∙ put-other w 1 v r ne; small = λ w words. l.small }
 
 -- ---- the nodes
 module _ (c : Code) (i : ℕ) (o : BinaryOp) (last : LastOperand) (d a : Reg) (x : Operand) (line : ℕ) (carries : sets_carry o ≡ true) (named : d ≢ Fp) (t : IsInText c i (binary_node o last d a x line))
@@ -147,7 +146,6 @@ module _ (c : Code) (i : ℕ) (o : BinaryOp) (last : LastOperand) (d a : Reg) (x
   pub carried-computes-node : IsComputed c i n choices body
   carried-computes-node code trash = carried-nodes-compute (rv_computer code trash) rv_scratch c i o last d a x line choices body carries named t
       (into code trash (d ∷ []) choices body record {
-        some = longer second (carry_code o u to from) puts.some;
         computes = all-compute-append second (carry_code o u to from) puts.computes (carried-computes o u to from);
         keeps = λ w r apart taken link carry. ap (λ z. z r) (computed-append second (carry_code o u to from) w) ∙ carried-keeps o u to from (computed second w) r (other r taken) apart.0 link carry ∙ puts.keeps w r link;
       })

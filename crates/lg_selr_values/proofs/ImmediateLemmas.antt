@@ -55,6 +55,6 @@ is-load addresses t (operand.Label l) ne within a h =
       code = Upper Lui t (high_part v) ∷ Imm Addi t t (low_part v) ∷ [];
       settles = λ at. refl;
       word = v;
-      loads = record { computes = refl; value = λ w. put-again w t (sign_32 (high_part v * 4096)) (λ z. add_words z (word_of (low_part v))) ne ∙ ap (put w t) (address-made v h); some = omega arith; small = omega (arith, h) };
+      loads = record { computes = refl; value = λ w. put-again w t (sign_32 (high_part v * 4096)) (λ z. add_words z (word_of (low_part v))) ne ∙ ap (put w t) (address-made v h); small = omega (arith, h) };
       given = λ s. refl;
     }

@@ -39,12 +39,7 @@ put-small w t v small words r = by (r == t)
 pub record LoadsWord (load : List Instr) (t v : ℕ) : Type 0 where
   pub computes : all_compute load ≡ true
   pub value : (w : ℕ → ℕ) → computed load w ≡ put w t v
-  pub some : 0 < length load
   pub small : v < 2 ^ 64
 
 pub loads-number : (t v : ℕ) → t ≢ 0 → t < 32 → v < 2 ^ 64 → LoadsWord (number_code t v) t v
-loads-number t v ne within small = let l = loaded-number t v ne within small in record { computes = l.computes; value = λ w. number-computed t v ne within small w; some = l.some; small = small }
-
-pub longer : (xs ys : List Instr) → 0 < length xs → 0 < length (xs ++ ys)
-longer [] ys h = absurd (omega (arith, h))
-longer (x ∷ xs) ys h = omega arith
+loads-number t v ne within small = let l = loaded-number t v ne within small in record { computes = l.computes; value = λ w. number-computed t v ne within small w; small = small }

@@ -174,7 +174,3 @@ module _ (d : ℕ) (some : d ≢ 0) (link : d ≢ 1) (carry : d ≢ 31) where
 pub unary-computes : (o : UnaryOp) (d a : ℕ) → all_compute (unary_code o d a) ≡ true
 unary-computes unary.Neg d a = refl
 unary-computes o d a = refl
-
-pub unary-some : (o : UnaryOp) (d a : ℕ) → 0 < length (unary_code o d a)
-unary-some unary.Neg d a = omega arith
-unary-some o d a = omega arith

@@ -24,7 +24,7 @@ use Rattle.lg_carry.specs.Values.Computers as computer
 use Rattle.lg_carry.specs.Values.Values.{ComputesInto}
 use Rattle.lg_carry.specs.Values.ValueNodes.{unary_node, movi_node, va_start_node, retval_node, extension}
 use Rattle.lg_carry.proofs.OfValues.ValueNodeLemmas.{extends}
-use Rattle.lg_selr_values.proofs.UnaryCodeLemmas.{unary-computed, unary-keeps, unary-computes, unary-some}
+use Rattle.lg_selr_values.proofs.UnaryCodeLemmas.{unary-computed, unary-keeps, unary-computes}
 use Rattle.lg_carry.proofs.OfValues.OneWordLemmas.{unary-nodes-compute, movi-nodes-compute, va-start-nodes-compute, retval-nodes-compute}
 use Rattle.lg_selr_values.proofs.LoadCodeLemmas.{LoadsWord}
 
@@ -41,7 +41,6 @@ unary-node-computes c i o d a line named t code trash =
     let body = unary_code o rd ra in
     unary-nodes-compute (rv_computer code trash) rv_scratch c i o d a line [] body named t
     (into code trash (d ∷ []) [] body record {
-      some = unary-some o rd ra;
       computes = unary-computes o rd ra;
       keeps = λ w r apart taken link carry. unary-keeps rd (register-nonzero d) (register-apart d).0 (register-apart d).1 o ra w r apart.0 link carry;
     })
@@ -59,7 +58,7 @@ holds load d v l w = held-at load w d v (ap (λ u. u d) (l.value w.registers) �
 
 loads-into : (code : List ℕ) (trash : ℕ) (d : Reg) (v : ℕ) (load : List Instr) → LoadsWord load (register_of Riscv64 d) v → ComputesInto (rv_computer code trash) rv_scratch (d ∷ []) [] load
 loads-into code trash d v load l =
-    into code trash (d ∷ []) [] load record { some = l.some; computes = l.computes; keeps = λ w r apart taken link carry. others load (register_of Riscv64 d) v l w r apart.0 }
+    into code trash (d ∷ []) [] load record { computes = l.computes; keeps = λ w r apart taken link carry. others load (register_of Riscv64 d) v l w r apart.0 }
 
 pub movi-computes : (c : Code) (i : ℕ) (d : Reg) (x : Operand) (v line : ℕ) → d ≢ Fp → ((s : State) → value c.addresses s x ≡ Some v) → IsInText c i (movi_node d x line)
     → (load : List Instr) → LoadsWord load (register_of Riscv64 d) v → IsComputed c i (movi_node d x line) [] load
@@ -80,7 +79,6 @@ retval-computes c i t d line named x code trash =
     let body = retval_code t rd in
     retval-nodes-compute (rv_computer code trash) rv_scratch c i t d line [] body named x
     (into code trash (d ∷ []) [] body record {
-      some = unary-some (extension t) rd 10;
       computes = unary-computes (extension t) rd 10;
       keeps = λ w r apart taken link carry. unary-keeps rd (register-nonzero d) (register-apart d).0 (register-apart d).1 (extension t) 10 w r apart.0 link carry;
     })

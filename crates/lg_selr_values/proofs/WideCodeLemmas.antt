@@ -143,7 +143,3 @@ wide-keeps wide.DivU d e a b w r rd re r1 = put-other (put (put w 1 _) e _) d _ 
 pub wide-computes : (o : WideOp) (d e a b : ℕ) → all_compute (wide_code o d e a b) ≡ true
 wide-computes wide.Mul d e a b = refl
 wide-computes o d e a b = refl
-
-pub wide-some : (o : WideOp) (d e a b : ℕ) → 0 < length (wide_code o d e a b)
-wide-some wide.Mul d e a b = omega arith
-wide-some o d e a b = omega arith

@@ -25,8 +25,8 @@ use Rattle.lg_selr_values.proofs.OfProcessor.RegisterLemmas.{read-of, register-a
 use Rattle.lg_carry.proofs.OfNodes.RegisterLemmas.{same-self}
 use Rattle.lg_selr_values.specs.WideCode.{wide_code}
 use Rattle.lg_carry.specs.Values.ValueNodes.{wide_node}
-use Rattle.lg_selr_values.proofs.LoadCodeLemmas.{some-same, LoadsWord, put-small, longer}
-use Rattle.lg_selr_values.proofs.WideCodeLemmas.{wide-value, wide-keeps, wide-computes, wide-some}
+use Rattle.lg_selr_values.proofs.LoadCodeLemmas.{some-same, LoadsWord, put-small}
+use Rattle.lg_selr_values.proofs.WideCodeLemmas.{wide-value, wide-keeps, wide-computes}
 use Rattle.lg_carry.proofs.OfValues.TwoResultLemmas.{registers-apart, wide-nodes-compute}
 use Rattle.lg_carry.specs.Values.Values.{HoldsPair}
 
@@ -45,7 +45,7 @@ module _ (c : Code) (i : ℕ) (o : WideOp) (d e a : Reg) (line : ℕ) (nd : d �
       let rb = register_of Riscv64 b in
       let body = wide_code o rd re ra rb in
       wide-nodes-compute (rv_computer code trash) rv_scratch c i o last_operand.Register d e a (operand.Reg b) line [] body nd ne apart t
-      (into code trash (d ∷ e ∷ []) [] body record { some = wide-some o rd re ra rb; computes = wide-computes o rd re ra rb; keeps = λ w r off taken link carry. wide-keeps o rd re ra rb w r off.0 off.1.0 link })
+      (into code trash (d ∷ e ∷ []) [] body record { computes = wide-computes o rd re ra rb; keeps = λ w r off taken link carry. wide-keeps o rd re ra rb w r off.0 off.1.0 link })
       (λ s w m k p h em ek ez.
       let ea : read w.registers ra ≡ m = read-of w.registers a ∙ em in
       let eb : read w.registers rb ≡ k = read-of w.registers b ∙ h.registers b k (λ z. or_left _ false (or_left _ false (or_left _ (is_same a b) (same-self b z)))) ek in
@@ -60,7 +60,6 @@ module _ (c : Code) (i : ℕ) (o : WideOp) (d e a : Reg) (line : ℕ) (nd : d �
       let body = load ++ wide_code o rd re ra 31 in
       wide-nodes-compute (rv_computer code trash) rv_scratch c i o last_operand.Immediate d e a x line [] body nd ne apart t
       (into code trash (d ∷ e ∷ []) [] body record {
-        some = longer load (wide_code o rd re ra 31) l.some;
         computes = all-compute-append load (wide_code o rd re ra 31) l.computes (wide-computes o rd re ra 31);
         keeps = λ w r off taken link carry. ap (λ u. u r) (before w) ∙ wide-keeps o rd re ra 31 (put w 31 v) r off.0 off.1.0 link ∙ put-other w 31 v r carry;
       })

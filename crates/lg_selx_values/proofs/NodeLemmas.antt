@@ -47,10 +47,6 @@ pointer-sum sp frame fp e a b c = grind (arith, e, a, b, c)
 pub in-frame : (n : Node) (frame : ℕ) (s : State) (q : Seen) → HoldsRead X86_64 n frame s q → IsInFrame frame (holding q)
 in-frame n frame s q h = record { words = h.in_frame.seen.words; pointer = pointer-sum (q.registers 4) frame (q.registers 5) h.in_frame.pointer h.in_frame.large h.in_frame.low h.in_frame.high }
 
-pub some-spelled : (is : List Instr) → 0 < length is → 0 < length (spellings spelling is)
-some-spelled [] h = absurd (omega (arith, h))
-some-spelled (i ∷ is) h = let s = (sized i).some in let l = length-append (spelling i) (spellings spelling is) in omega (arith, s, l)
-
 -- ---- the step
 plain-step : (c : Code) (o : BinaryOp) (s : State) (n : Node) → sets_carry o ≡ false → (if sets_carry o then carry_step c.addresses n o s else binary_step c.addresses n (binary_value o) s) ≡ binary_step c.addresses n (binary_value o) s
 plain-step c o s n plain = ap (λ z. if z then carry_step c.addresses n o s else binary_step c.addresses n (binary_value o) s) plain
@@ -59,7 +55,7 @@ only-carried : (c : Code) (o : BinaryOp) (s : State) (n : Node) → sets_carry o
 only-carried c o s n h = ap (λ z. if z then carry_step c.addresses n o s else binary_step c.addresses n (binary_value o) s) h
 
 -- ---- two words into one register
-module _ (c : Code) (i frame : ℕ) (o : BinaryOp) (last : LastOperand) (d a : Reg) (x : Operand) (line : ℕ) (named : d ≢ Fp) (t : IsInText c i (binary_node o last d a x line)) (choices : List Choice) (body : List Instr) (some : 0 < length body) where
+module _ (c : Code) (i frame : ℕ) (o : BinaryOp) (last : LastOperand) (d a : Reg) (x : Operand) (line : ℕ) (named : d ≢ Fp) (t : IsInText c i (binary_node o last d a x line)) (choices : List Choice) (body : List Instr) where
   abbrev n : Node
   n = binary_node o last d a x line
 
@@ -80,7 +76,6 @@ module _ (c : Code) (i frame : ℕ) (o : BinaryOp) (last : LastOperand) (d a : R
       → ((s : State) (q : Seen) (m k z : ℕ) → HoldsRead X86_64 n frame s q → q.registers (register_of X86_64 a) ≡ m → value c.addresses s x ≡ Some k → binary_value o m k ≡ Some z → MakesWord choices body (register_of X86_64 d) z (holding q))
       → MakesNode c i n frame choices body
   binary-makes plain word = record {
-    some = some-spelled body some;
     steps = λ s q at h. by s q h (two-given (reg s a) (value c.addresses s x) (binary_value o) (λ m k v. on (with_reg s (operand.Reg d) v)) (step c.nodes c.shape c.addresses s) (step-is c i n s t at ∙ plain-step c o s n plain));
   }
     where
@@ -110,7 +105,6 @@ module _ (c : Code) (i frame : ℕ) (o : BinaryOp) (last : LastOperand) (d a : R
       → ((s : State) (q : Seen) (m k : ℕ) (bit : Bool) → HoldsRead X86_64 n frame s q → q.registers (register_of X86_64 a) ≡ m → value c.addresses s x ≡ Some k → carry_in o s.carry ≡ Some bit
       → MakesWithCarry o body (register_of X86_64 d) m k (bit_word bit) (holding q)) → MakesNode c i n frame choices body
   carried-makes carries word = record {
-    some = some-spelled body some;
     steps = λ s q at h. by s q h (two-given (reg s a) (value c.addresses s x) (λ m k. carry_in o s.carry) (reached s) (step c.nodes c.shape c.addresses s) (step-is c i n s t at ∙ only-carried c o s n carries));
   }
     where

@@ -32,7 +32,7 @@ use Rattle.lg_selx_values.proofs.NodeLemmas.{holding, in-frame, binary-makes, ca
 use Rattle.lg_selx_values.proofs.NumberLemmas.{number-rows-are-made}
 use Rattle.lg_selx_values.proofs.NumberWordLemmas.{numbers-are-made}
 use Rattle.lg_selx_values.proofs.RegisterLemmas.{register-portable, register-not-frame}
-use Rattle.lg_selx_values.proofs.RegisterNodeLemmas.{two-named, chosen-carries, some-moved, some-either}
+use Rattle.lg_selx_values.proofs.RegisterNodeLemmas.{two-named, chosen-carries}
 
 spoilt-named : (o : BinaryOp) (r : ℕ) → number_spoils o r ≡ true → is_named (value_needs (op.Binary o last_operand.Immediate)) r ≡ true
 spoilt-named binary.Div r e = two-named r e
@@ -55,27 +55,6 @@ needs-few binary.Rem = omega arith
 needs-few binary.RemU = omega arith
 needs-few o = omega arith
 
-code-some : (o : BinaryOp) (frame d a v : ℕ) → sets_carry o ≡ false → 0 < length (number_form_code o frame d a v)
-code-some binary.Add frame d a v p = some-either (is_near d a v) _ _ (omega arith) (some-either (is_half v) _ _ (some-moved d a _ (omega arith)) (some-moved d a _ (omega arith)))
-code-some binary.Sub frame d a v p = some-either (is_near d a (negated v)) _ _ (omega arith) (some-either (is_half v) _ _ (some-moved d a _ (omega arith)) (some-moved d a _ (omega arith)))
-code-some binary.And frame d a v p = some-either (is_half v) _ _ (some-moved d a _ (omega arith)) (some-moved d a _ (omega arith))
-code-some binary.Or frame d a v p = some-either (is_half v) _ _ (some-moved d a _ (omega arith)) (some-moved d a _ (omega arith))
-code-some binary.Xor frame d a v p = some-either (is_half v) _ _ (some-moved d a _ (omega arith)) (some-moved d a _ (omega arith))
-code-some binary.Rsb frame d a v p = some-moved d a _ (omega arith)
-code-some binary.Mul frame d a v p = some-either (d == a) _ _ (omega arith) (omega arith)
-code-some binary.Lsh frame d a v p = some-moved d a _ (omega arith)
-code-some binary.Rsh frame d a v p = some-moved d a _ (omega arith)
-code-some binary.RshU frame d a v p = some-moved d a _ (omega arith)
-code-some binary.Div frame d a v p = some-either (is_dividend d) _ _ (some-moved 0 a _ (omega arith)) (some-moved 0 a _ (omega arith))
-code-some binary.DivU frame d a v p = some-either (is_dividend d) _ _ (some-moved 0 a _ (omega arith)) (some-moved 0 a _ (omega arith))
-code-some binary.Rem frame d a v p = some-either (is_dividend d) _ _ (some-moved 0 a _ (omega arith)) (some-moved 0 a _ (omega arith))
-code-some binary.RemU frame d a v p = some-either (is_dividend d) _ _ (some-moved 0 a _ (omega arith)) (some-moved 0 a _ (omega arith))
-code-some binary.Addc frame d a v p = cc
-code-some binary.Subc frame d a v p = cc
-code-some binary.Addx frame d a v p = cc
-code-some binary.Subx frame d a v p = cc
-code-some o frame d a v p = some-either (is_half v) _ _ (omega arith) (some-moved d a _ (omega arith))
-
 pub binary-numbers-carry : BinaryNumbersCarry
 binary-numbers-carry code trash c i frame o d a x v line live choices plain named small given k =
     let rd = register_of X86_64 d in
@@ -83,7 +62,7 @@ binary-numbers-carry code trash c i frame o d a x v line live choices plain name
     let body = number_form_code o frame rd ra v in
     let n = binary_node o last_operand.Immediate d a x line in
     chosen-carries code trash c i frame n live choices body refl refl (needs-small o) (needs-few o) k
-    (binary-makes c i frame o last_operand.Immediate d a x line named k.in_text choices body (code-some o frame rd ra v plain) plain
+    (binary-makes c i frame o last_operand.Immediate d a x line named k.in_text choices body plain
     (λ s q m y z h em ey ez.
     let e : v ≡ y = some-same v y (sym (given s) ∙ ey) in
     let same : binary_value o (q.registers ra) v ≡ binary_value o m y = (λ j. binary_value o (em j) (e j)) in
@@ -125,13 +104,6 @@ module _ (frame d a v : ℕ) (q : Held) (d5 : d ≢ 5) (d4 : d ≢ 4) (small : v
       let l = number-rows-are-made frame d a v q d5 d4 small f imm.Sbbi c refl (taken-difference k c q.registers (carry_of q.flags) e h) in record { word = l.word; holds = l.carry_is }
   number-carried o k c is e h = cc
 
-carried-some : (o : BinaryOp) (frame d a v : ℕ) → sets_carry o ≡ true → 0 < length (carry_number_code o frame d a v)
-carried-some binary.Addc frame d a v p = some-either (is_half v) _ _ (some-moved d a _ (omega arith)) (some-moved d a _ (omega arith))
-carried-some binary.Addx frame d a v p = some-either (is_half v) _ _ (some-moved d a _ (omega arith)) (some-moved d a _ (omega arith))
-carried-some binary.Subc frame d a v p = some-either (is_half v) _ _ (some-moved d a _ (omega arith)) (some-moved d a _ (omega arith))
-carried-some binary.Subx frame d a v p = some-either (is_half v) _ _ (some-moved d a _ (omega arith)) (some-moved d a _ (omega arith))
-carried-some o frame d a v p = cc
-
 carried-needs : (o : BinaryOp) → sets_carry o ≡ true → value_needs (op.Binary o last_operand.Immediate) ≡ []
 carried-needs binary.Addc h = refl
 carried-needs binary.Addx h = refl
@@ -147,7 +119,7 @@ carried-numbers-carry code trash c i frame o d a x v line live choices carries n
     let n = binary_node o last_operand.Immediate d a x line in
     let none = carried-needs o carries in
     chosen-carries code trash c i frame n live choices body refl refl (λ r e. absurd (unnamed r (ap (λ needs. is_named needs r) (sym none) ∙ e))) (subst (λ needs. length needs ≤ 3) (sym none) (omega arith)) k
-    (carried-makes c i frame o last_operand.Immediate d a x line named k.in_text choices body (carried-some o frame rd ra v carries) carries
+    (carried-makes c i frame o last_operand.Immediate d a x line named k.in_text choices body carries
     (λ s q m y bit h em ey ek.
     let e : v ≡ y = some-same v y (sym (given s) ∙ ey) in
     subst (λ t. MakesWithCarry o body rd t y (bit_word bit) (holding q)) em (subst (λ t. MakesWithCarry o body rd (q.registers ra) t (bit_word bit) (holding q)) e

@@ -102,54 +102,6 @@ pub chosen-carries : (code : List ℕ) (trash : ℕ) (c : Code) (i frame : ℕ) 
 chosen-carries code trash c i frame n live choices body inside falls small few k m =
     straight-carries code trash c i frame n live choices body inside falls small few k (making-nodes-compute code trash c i n frame choices body m)
 
--- ---- the code has an instruction
-pub some-moved : (d a : ℕ) (is : List Instr) → 0 < length is → 0 < length (moved d a ++ is)
-some-moved d a is h = by (d == a)
-  where
-    by : (b : Bool) → 0 < length ((if b then [] else RmReg Mov d a ∷ []) ++ is)
-    by true = h
-    by false = omega arith
-
-pub some-either : (b : Bool) (xs ys : List Instr) → 0 < length xs → 0 < length ys → 0 < length (if b then xs else ys)
-some-either true xs ys h k = h
-some-either false xs ys h k = k
-
-divided-some : (signed : Bool) (frame r d a b : ℕ) → 0 < length (divided signed frame r d a b)
-divided-some signed frame r d a b =
-    let front : List Instr = moved 0 a ++ (high_half signed ∷ division signed b ∷ []) in
-    let some : 0 < length front = some-moved 0 a (high_half signed ∷ division signed b ∷ []) (omega arith) in
-    let all = length-append front (moved d r) in
-    some-either (is_dividend b) (RmReg Mov 2 b ∷ RmReg Mov 0 a ∷ RmReg Mov 5 2 ∷ high_half signed ∷ division signed 5 ∷ RmReg Mov d r ∷ again frame)
-    (front ++ moved d r) (omega arith) (omega (arith, some, all))
-
-code-some : (o : BinaryOp) (frame d a b : ℕ) → sets_carry o ≡ false → 0 < length (register_code o frame d a b)
-code-some binary.Add frame d a b p = some-either ((d == a) || (d == b)) _ _ (some-either (d == b) _ _ (omega arith) (some-moved d a _ (omega arith))) (omega arith)
-code-some binary.And frame d a b p = some-either (d == b) _ _ (omega arith) (some-moved d a _ (omega arith))
-code-some binary.Or frame d a b p = some-either (d == b) _ _ (omega arith) (some-moved d a _ (omega arith))
-code-some binary.Xor frame d a b p = some-either (d == b) _ _ (omega arith) (some-moved d a _ (omega arith))
-code-some binary.Sub frame d a b p = some-either (d == b) _ _ (omega arith) (some-moved d a _ (omega arith))
-code-some binary.Rsb frame d a b p = some-either (d == a) _ _ (omega arith) (some-moved d b _ (omega arith))
-code-some binary.Mul frame d a b p = some-either (d == b) _ _ (omega arith) (some-moved d a _ (omega arith))
-code-some binary.Addc frame d a b p = cc
-code-some binary.Subc frame d a b p = cc
-code-some binary.Addx frame d a b p = cc
-code-some binary.Subx frame d a b p = cc
-code-some binary.Lsh frame d a b p = omega arith
-code-some binary.Rsh frame d a b p = omega arith
-code-some binary.RshU frame d a b p = omega arith
-code-some binary.Div frame d a b p = divided-some true frame 0 d a b
-code-some binary.DivU frame d a b p = divided-some false frame 0 d a b
-code-some binary.Rem frame d a b p = divided-some true frame 2 d a b
-code-some binary.RemU frame d a b p = divided-some false frame 2 d a b
-code-some o frame d a b p = omega arith
-
-carried-some : (o : BinaryOp) (frame d a b : ℕ) → sets_carry o ≡ true → 0 < length (carry_register_code o frame d a b)
-carried-some binary.Addc frame d a b is = some-either (d == b) _ _ (omega arith) (some-moved d a _ (omega arith))
-carried-some binary.Addx frame d a b is = some-either (d == b) _ _ (omega arith) (some-moved d a _ (omega arith))
-carried-some binary.Subc frame d a b is = some-either (d == b) _ _ (omega arith) (some-moved d a _ (omega arith))
-carried-some binary.Subx frame d a b is = some-either (d == b) _ _ (omega arith) (some-moved d a _ (omega arith))
-carried-some o frame d a b is = cc
-
 pub carried-needs : (o : BinaryOp) → sets_carry o ≡ true → value_needs (op.Binary o last_operand.Register) ≡ []
 carried-needs binary.Addc h = refl
 carried-needs binary.Addx h = refl
@@ -171,7 +123,7 @@ binary-registers-carry code trash c i frame o d a b line live choices plain name
     let pd = register-portable d in
     let pa = register-portable a in
     chosen-carries code trash c i frame n live choices body refl refl (needs-small o) (needs-few o) k
-    (binary-makes c i frame o last_operand.Register d a (operand.Reg b) line named k.in_text choices body (code-some o frame rd ra rb plain) plain
+    (binary-makes c i frame o last_operand.Register d a (operand.Reg b) line named k.in_text choices body plain
     (λ s q x y z h ex ey ez.
     let eb : q.registers rb ≡ y = h.registers b y (reads-second o d a b line) ey in
     let same : binary_value o (q.registers ra) (q.registers rb) ≡ binary_value o x y = (λ j. binary_value o (ex j) (eb j)) in
@@ -192,7 +144,7 @@ carried-registers-carry code trash c i frame o d a b line live choices carries n
     let body = carry_register_code o frame rd ra rb in
     let none = carried-needs o carries in
     chosen-carries code trash c i frame n live choices body refl refl (λ r e. absurd (unnamed r (ap (λ needs. is_named needs r) (sym none) ∙ e))) (subst (λ needs. length needs ≤ 3) (sym none) (omega arith)) k
-    (carried-makes c i frame o last_operand.Register d a (operand.Reg b) line named k.in_text choices body (carried-some o frame rd ra rb carries) carries
+    (carried-makes c i frame o last_operand.Register d a (operand.Reg b) line named k.in_text choices body carries
     (λ s q x y bit h ex ey ek.
     let eb : q.registers rb ≡ y = h.registers b y (reads-second o d a b line) ey in
     subst (λ m. MakesWithCarry o body rd m y (bit_word bit) (holding q)) ex (subst (λ m. MakesWithCarry o body rd (q.registers ra) m (bit_word bit) (holding q)) eb

@@ -296,7 +296,7 @@ module _ (frame : ℕ) (P : Instr → Type 0) (S : ℕ → Type 0) (h : HoldsOfR
   retval-made value_type.UnsignedShort d fd = record { each = (h.ext ext.Ext16u d 0 fd (omega arith), tt); few = omega arith }
   retval-made value_type.Int d fd = record { each = (h.ext ext.Ext32s d 0 fd (omega arith), tt); few = omega arith }
   retval-made value_type.UnsignedInt d fd = record { each = (h.ext ext.Ext32u d 0 fd (omega arith), tt); few = omega arith }
-  retval-made value_type.Long d fd = record { each = (h.two alu.Mov d 0 fd (omega arith), tt); few = omega arith }
+  retval-made value_type.Long d fd = wider 1 3 (moved d 0) (omega arith) (move d 0 fd (omega arith))
 
   -- ---- two results
   results-each : (d e : ℕ) → Fine d → Fine e → Each P (results d e)

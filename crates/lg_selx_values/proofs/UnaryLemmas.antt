@@ -1,5 +1,5 @@
 -- Nodes of one word, by instructions that only compute.
-use Rattle.std.proofs.Common.{◌≡◌, ℕ, ◌/◌, ◌^◌, ◌<◌, Bool, true, false, List, [], ◌∷◌, ◌++◌, refl, sym, ap, ◌∙◌, length, arith}
+use Rattle.std.proofs.Common.{◌≡◌, ℕ, ◌/◌, ◌^◌, ◌<◌, Bool, true, false, List, [], ◌∷◌, ◌++◌, refl, sym, ap, ◌∙◌, length, arith, append-nil}
 use Rattle.std.specs.Prelude.{◌==◌, ◌&&◌, if◌then◌else◌}
 use Rattle.std.proofs.Math.Nat.{mod-lt}
 use Rattle.lg_base.specs.Flags.{carry_of}
@@ -35,7 +35,6 @@ use Rattle.lg_selx_values.specs.RegisterNodes.{UnariesCarry, MovisCarry, VaStart
 use Rattle.lg_selx_values.specs.Scratch.{moved}
 use Rattle.lg_selx_values.specs.UnaryCode.{unary_code, retval_code}
 use Rattle.lg_carry.specs.Values.ValueNodes.{unary_node, movi_node, va_start_node, retval_node}
-use Rattle.lg_selx_values.proofs.NodeLemmas.{some-spelled}
 use Rattle.lg_selx_values.proofs.RegisterLemmas.{put-same, put-other, put-twice, put-own, equal, register-portable}
 use Rattle.lg_selx_values.proofs.RegisterNodeLemmas.{straight-carries}
 use Rattle.lg_temp.specs.Chosen.{is_named}
@@ -87,38 +86,36 @@ unary-computed unary.HtonrUs d a w = turned-computed d a 48 w ∙ ap (put w.regi
 unary-computed unary.HtonrUi d a w = turned-computed d a 32 w ∙ ap (put w.registers d) (swapped-32 (w.registers a))
 unary-computed unary.HtonrUl d a w = ap (λ z. z.registers) (moved-computed d a (Bswap d ∷ []) w) ∙ put-again w.registers d (w.registers a) (λ v. swapped v 8)
 
--- code that computes, and has an instruction
-record Works (is : List Instr) : Type 0 where
-  computes_all : all_compute computes is ≡ true
-  some : 0 < length is
+-- code that computes
+abbrev Works : List Instr → Type 0
+Works is = all_compute computes is ≡ true
 
 works-moved : (d a : ℕ) (is : List Instr) → Works is → Works (moved d a ++ is)
 works-moved d a is h = by (d == a)
   where
     by : (b : Bool) → Works ((if b then [] else RmReg Mov d a ∷ []) ++ is)
     by true = h
-    by false = record { computes_all = h.computes_all; some = omega arith }
+    by false = h
 
 unary-works : (o : UnaryOp) (d a : ℕ) → Works (unary_code o d a)
-unary-works unary.Neg d a = works-moved d a (Unary Neg d ∷ []) record { computes_all = refl; some = omega arith }
-unary-works unary.Com d a = works-moved d a (Unary Not d ∷ []) record { computes_all = refl; some = omega arith }
-unary-works unary.HtonrUs d a = works-moved d a (Bswap d ∷ Shift Shri d 48 ∷ []) record { computes_all = refl; some = omega arith }
-unary-works unary.HtonrUi d a = works-moved d a (Bswap d ∷ Shift Shri d 32 ∷ []) record { computes_all = refl; some = omega arith }
-unary-works unary.HtonrUl d a = works-moved d a (Bswap d ∷ []) record { computes_all = refl; some = omega arith }
-unary-works unary.Mov d a = record { computes_all = refl; some = omega arith }
-unary-works unary.ExtrC d a = record { computes_all = refl; some = omega arith }
-unary-works unary.ExtrUc d a = record { computes_all = refl; some = omega arith }
-unary-works unary.ExtrS d a = record { computes_all = refl; some = omega arith }
-unary-works unary.ExtrUs d a = record { computes_all = refl; some = omega arith }
-unary-works unary.ExtrI d a = record { computes_all = refl; some = omega arith }
-unary-works unary.ExtrUi d a = record { computes_all = refl; some = omega arith }
+unary-works unary.Neg d a = works-moved d a (Unary Neg d ∷ []) refl
+unary-works unary.Com d a = works-moved d a (Unary Not d ∷ []) refl
+unary-works unary.HtonrUs d a = works-moved d a (Bswap d ∷ Shift Shri d 48 ∷ []) refl
+unary-works unary.HtonrUi d a = works-moved d a (Bswap d ∷ Shift Shri d 32 ∷ []) refl
+unary-works unary.HtonrUl d a = works-moved d a (Bswap d ∷ []) refl
+unary-works unary.Mov d a = refl
+unary-works unary.ExtrC d a = refl
+unary-works unary.ExtrUc d a = refl
+unary-works unary.ExtrS d a = refl
+unary-works unary.ExtrUs d a = refl
+unary-works unary.ExtrI d a = refl
+unary-works unary.ExtrUi d a = refl
 
 -- code that puts a word into one register computes into it
 into : (code : List ℕ) (trash : ℕ) (d : Reg) (choices : List Choice) (body : List Instr) (word : Held → ℕ) → Works body → ((w : Held) → (by-all body w).registers ≡ put w.registers (register_of X86_64 d) (word w))
     → ComputesInto (x86_computer code trash) x86_scratch (d ∷ []) choices body
 into code trash d choices body word h puts = record {
-  some = some-spelled body h.some;
-  computes = h.computes_all;
+  computes = h;
   keeps = λ w x apart taken off carry. ap (λ g. g x) (puts w) ∙ put-other w.registers (register_of X86_64 d) (word w) x apart.0;
 }
 
@@ -161,7 +158,7 @@ movis-carry code trash c i frame d x v line live choices named small given k =
     straight-carries code trash c i frame n live choices body refl refl no-need (omega arith) k
     (computing-computes (x86_computer code trash) (is-computer code trash) x86_scratch c i n frame choices body
     (movi-nodes-compute (x86_computer code trash) x86_scratch c i d x v line choices body named given k.in_text
-    (into code trash d choices body (λ w. v) record { computes_all = ap (λ b. b && true) l.computes_it; some = omega arith } (λ w. ap (λ z. z.registers) (is w)))
+    (into code trash d choices body (λ w. v) (ap (λ b. b && true) l.computes_it) (λ w. ap (λ z. z.registers) (is w)))
     (carry-kept code trash body (λ w. ap (λ z. z.flags) (is w)))
     (λ w. ap (λ z. z.registers rd) (is w) ∙ put-same w.registers rd v)))
 
@@ -175,7 +172,7 @@ va-starts-carry code trash c i frame d k line live choices named small chosen =
     straight-carries code trash c i frame n live choices body refl refl no-need (omega arith) chosen
     (computing-computes (x86_computer code trash) (is-computer code trash) x86_scratch c i n frame choices body
     (va-start-nodes-compute (x86_computer code trash) x86_scratch c i d k line choices body named chosen.in_text
-    (into code trash d choices body (λ w. k) record { computes_all = ap (λ b. b && true) l.computes_it; some = omega arith } (λ w. ap (λ z. z.registers) (is w)))
+    (into code trash d choices body (λ w. k) (ap (λ b. b && true) l.computes_it) (λ w. ap (λ z. z.registers) (is w)))
     (λ w. ap (λ z. z.registers rd) (is w) ∙ put-same w.registers rd k)))
 
 retval-computed : (t : ValueType) (d : ℕ) (w : Held) → (by-all (retval_code t d) w).registers ≡ put w.registers d (extended_by_type t (w.registers 0))
@@ -185,16 +182,20 @@ retval-computed value_type.Short d w = refl
 retval-computed value_type.UnsignedShort d w = refl
 retval-computed value_type.Int d w = refl
 retval-computed value_type.UnsignedInt d w = refl
-retval-computed value_type.Long d w = refl
+retval-computed value_type.Long d w = ap (λ z. (by-all z w).registers) (sym (append-nil (moved d 0))) ∙ ap (λ z. z.registers) (moved-computed d 0 [] w)
 
 retval-works : (t : ValueType) (d : ℕ) → Works (retval_code t d)
-retval-works value_type.Char d = record { computes_all = refl; some = omega arith }
-retval-works value_type.UnsignedChar d = record { computes_all = refl; some = omega arith }
-retval-works value_type.Short d = record { computes_all = refl; some = omega arith }
-retval-works value_type.UnsignedShort d = record { computes_all = refl; some = omega arith }
-retval-works value_type.Int d = record { computes_all = refl; some = omega arith }
-retval-works value_type.UnsignedInt d = record { computes_all = refl; some = omega arith }
-retval-works value_type.Long d = record { computes_all = refl; some = omega arith }
+retval-works value_type.Char d = refl
+retval-works value_type.UnsignedChar d = refl
+retval-works value_type.Short d = refl
+retval-works value_type.UnsignedShort d = refl
+retval-works value_type.Int d = refl
+retval-works value_type.UnsignedInt d = refl
+retval-works value_type.Long d = by (d == 0)
+  where
+    by : (b : Bool) → Works (if b then [] else RmReg Mov d 0 ∷ [])
+    by true = refl
+    by false = refl
 
 pub retvals-carry : RetvalsCarry
 retvals-carry code trash c i frame t d line live choices named k =

@@ -36,7 +36,7 @@ use Rattle.lg_selx_values.specs.RegisterNodes.{wide_registers, WideRegistersCarr
 use Rattle.lg_selx_values.specs.WideCode.{wide_code, wide_number_code}
 use Rattle.lg_selx_values.specs.Words.{MakesPair}
 use Rattle.lg_selx_values.proofs.NeedLemmas.{named-apart, same-register}
-use Rattle.lg_selx_values.proofs.NodeLemmas.{holding, in-frame, some-spelled}
+use Rattle.lg_selx_values.proofs.NodeLemmas.{holding, in-frame}
 use Rattle.lg_carry.proofs.OfValues.TwoResultLemmas.{registers-apart, holds-two, writes-first, writes-second}
 use Rattle.lg_selx_values.proofs.RegisterLemmas.{register-portable, register-not-frame}
 use Rattle.lg_selx_values.proofs.RegisterNodeLemmas.{two-named, chosen-carries}
@@ -47,7 +47,7 @@ both-written : (o : WideOp) (last : LastOperand) (d e a : Reg) (x : Operand) (li
 both-written o last_operand.Register d e a x line q = or-false (is_same e q || is_same d q)
 both-written o last_operand.Immediate d e a x line q = or-false (is_same e q || is_same d q)
 
-module _ (c : Code) (i frame : ℕ) (o : WideOp) (last : LastOperand) (d e a : Reg) (x : Operand) (line : ℕ) (nd : d ≢ Fp) (ne : e ≢ Fp) (apart : d ≢ e) (t : IsInText c i (wide_node o last d e a x line)) (choices : List Choice) (body : List Instr) (some : 0 < length body)
+module _ (c : Code) (i frame : ℕ) (o : WideOp) (last : LastOperand) (d e a : Reg) (x : Operand) (line : ℕ) (nd : d ≢ Fp) (ne : e ≢ Fp) (apart : d ≢ e) (t : IsInText c i (wide_node o last d e a x line)) (choices : List Choice) (body : List Instr)
     (pair : (s : State) (q : Seen) (m k : ℕ) (p : ℕ × ℕ) → HoldsRead X86_64 (wide_node o last d e a x line) frame s q → q.registers (register_of X86_64 a) ≡ m → value c.addresses s x ≡ Some k → wide_value o m k ≡ Some p
     → MakesPair choices body (register_of X86_64 d) (register_of X86_64 e) p (holding q)) where
   abbrev n : Node
@@ -67,7 +67,6 @@ module _ (c : Code) (i frame : ℕ) (o : WideOp) (last : LastOperand) (d e a : R
 
   wide-makes : MakesNode c i n frame choices body
   wide-makes = record {
-    some = some-spelled body some;
     steps = λ s q at h. by s q h (two-given (reg s a) (value c.addresses s x) (wide_value o) (λ m k p. to s p) (step c.nodes c.shape c.addresses s) (step-is c i n s t at));
   }
     where
@@ -87,12 +86,6 @@ module _ (c : Code) (i frame : ℕ) (o : WideOp) (last : LastOperand) (d e a : R
             holds = record { written = two.0; others = two.1; carry = tt };
           }
 
-code-some : (o : WideOp) (frame d e a b : ℕ) → 0 < length (wide_code o frame d e a b)
-code-some wide.Mul frame d e a b = omega arith
-code-some wide.MulU frame d e a b = omega arith
-code-some wide.Div frame d e a b = omega arith
-code-some wide.DivU frame d e a b = omega arith
-
 needs-small : (r : ℕ) → is_named (Only 0 ∷ Only 2 ∷ []) r ≡ true → r < 3
 needs-small r e = grind (arith, e)
 
@@ -109,12 +102,6 @@ kept o last d e a x line live staged choices chosen r free f g true z =
     apart_of p is (inl h) = g (sym (same-register e p h ∙ is))
     apart_of p is (inr h) = f (sym (same-register d p h ∙ is))
 
-number-code-some : (o : WideOp) (frame d e a v : ℕ) → 0 < length (wide_number_code o frame d e a v)
-number-code-some wide.Mul frame d e a v = omega arith
-number-code-some wide.MulU frame d e a v = omega arith
-number-code-some wide.Div frame d e a v = omega arith
-number-code-some wide.DivU frame d e a v = omega arith
-
 pub wide-registers-carry : WideRegistersCarry
 wide-registers-carry code trash c i frame o d e a b line live choices nd ne apart k =
     let n = wide_registers o d e a b line in
@@ -126,7 +113,7 @@ wide-registers-carry code trash c i frame o d e a b line live choices nd ne apar
     let pd = register-portable d in
     let pe = register-portable e in
     chosen-carries code trash c i frame n live choices body refl refl needs-small (omega arith) k
-    (wide-makes c i frame o last_operand.Register d e a (operand.Reg b) line nd ne apart k.in_text choices body (code-some o frame rd re ra rb)
+    (wide-makes c i frame o last_operand.Register d e a (operand.Reg b) line nd ne apart k.in_text choices body
     (λ s q x y p h ex ey ep.
     let eb : q.registers rb ≡ y = h.registers b y (λ z. or_left _ false (or_left _ false (or_left _ (is_same a b) (same-self b z)))) ey in
     let same : wide_value o (q.registers ra) (q.registers rb) ≡ wide_value o x y = (λ j. wide_value o (ex j) (eb j)) in
@@ -143,7 +130,7 @@ wide-numbers-carry code trash c i frame o d e a x v line live choices nd ne apar
     let pd = register-portable d in
     let pe = register-portable e in
     chosen-carries code trash c i frame n live choices body refl refl needs-small (omega arith) k
-    (wide-makes c i frame o last_operand.Immediate d e a x line nd ne apart k.in_text choices body (number-code-some o frame rd re ra v)
+    (wide-makes c i frame o last_operand.Immediate d e a x line nd ne apart k.in_text choices body
     (λ s q m y p h em ey ep.
     let z : v ≡ y = some-same v y (sym (given s) ∙ ey) in
     let same : wide_value o (q.registers ra) v ≡ wide_value o m y = (λ j. wide_value o (em j) (z j)) in

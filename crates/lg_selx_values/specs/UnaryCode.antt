@@ -35,4 +35,4 @@ retval_code value_type.Short d = RegRm ext.Ext16s d 0 ∷ []
 retval_code value_type.UnsignedShort d = RegRm ext.Ext16u d 0 ∷ []
 retval_code value_type.Int d = RegRm ext.Ext32s d 0 ∷ []
 retval_code value_type.UnsignedInt d = RegRm ext.Ext32u d 0 ∷ []
-retval_code value_type.Long d = RmReg alu.Mov d 0 ∷ []
+retval_code value_type.Long d = moved d 0

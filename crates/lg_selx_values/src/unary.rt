@@ -4,7 +4,7 @@ ghost use Rattle.std.specs.Prelude.{◌≡◌, ◌+◌, ◌<◌, ◌≤◌, ◌+
 ghost use Rattle.lg_selx_values.specs.Items.{ones, words_in};
 ghost use Rattle.lg_selx_values.specs.UnaryCode.{unary_code, retval_code};
 
-use crate::moves::{RAX, behind_move, ext, one};
+use crate::moves::{RAX, behind_move, ext, moved, one};
 use crate::{Item, mov};
 use lg_op::{UnaryOp, ValueType};
 use lg_sel::Items;
@@ -49,7 +49,7 @@ pub(crate) fn unary_code(op: UnaryOp, d: u8, a: u8, items: &mut Items<Item>)
     }
 }
 
-/// Appends the instruction that puts the result of a call into `d`, extended by its type. There is room for it.
+/// Appends the instruction that puts the result of a call into `d`, extended by its type; a word that is there already needs none. There is room for it.
 pub(crate) fn retval_code(value: ValueType, d: u8, items: &mut Items<Item>)
     requires { words_in items.old < 64 }
     ensures { items.new ≡ items.old ++ ones (retval_code value d) }
@@ -61,6 +61,6 @@ pub(crate) fn retval_code(value: ValueType, d: u8, items: &mut Items<Item>)
         ValueType::UnsignedShort => items.one(ext(RegRmOp::Ext16u, d, RAX)),
         ValueType::Int => items.one(ext(RegRmOp::Ext32s, d, RAX)),
         ValueType::UnsignedInt => items.one(ext(RegRmOp::Ext32u, d, RAX)),
-        ValueType::Long => items.one(mov(d, RAX)),
+        ValueType::Long => moved(d, RAX, items),
     }
 }

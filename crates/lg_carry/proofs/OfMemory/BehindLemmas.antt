@@ -59,7 +59,8 @@ pub in-a-row : {Q I : Type 0} (R : Rows Q I) (s : Seen) (V W : ℕ → ℕ) (B M
     → Does R (from_to (record s { registers = V; bytes = B; flags = E }) W M F) ys fp n T → Does R (from_to s W M F) (xs ++ ys) fp n T
 in-a-row R s V W B M E F xs ys fp n T most first second q looks room =
     let long = spelled-append R.spelling xs ys in
-    let a = first q looks record { low = room.low; high = omega (arith, room.high, long) } in
+    let both = length-append xs ys in
+    let a = first q looks record { low = room.low; high = λ z. let h = room.high (omega (arith, z, both)) in omega (arith, h, long) } in
     let mid = done R.does xs q in
     let b = second mid record {
       runs = a.runs;
@@ -68,7 +69,7 @@ in-a-row R s V W B M E F xs ys fp n T most first second q looks room =
       has_slots = λ x on. ap is_some (a.slots x on) ∙ looks.has_slots x on;
       has_mark = a.has_mark;
       has_flags = a.has_flags;
-    } record { low = omega (arith, room.low, a.behind); high = omega (arith, room.high, long, a.behind) } in
+    } record { low = omega (arith, room.low, a.behind); high = λ z. let h = room.high (omega (arith, z, both)) in omega (arith, h, long, a.behind) } in
     let all : done R.does (xs ++ ys) q ≡ done R.does ys mid = done-append R.does xs ys q in
     record {
       through = goes-append R.does R.processor.machine.status (IsAbove R) xs ys q a.through b.through;

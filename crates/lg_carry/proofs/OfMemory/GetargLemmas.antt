@@ -121,7 +121,7 @@ module _ {Q I : Type 0} (R : Rows Q I) (scratch : ℕ → Bool) (fits : I → Ty
           refl (λ u e. tt) does
 
       pub goes-there : (step c.nodes c.shape c.addresses s ≡ Undefined) ⊎ Leads R.processor c frames (live_behind frames n S s) i (step c.nodes c.shape c.addresses s) out q
-      goes-there = computes R scratch fits isa c i n S [] is refl refl x y (some frame t d k few) h frames s q at st.runs st.state steps-to out st.wrote
+      goes-there = computes R scratch fits isa c i n S [] is refl refl x y h frames s q at st.runs st.state steps-to out st.wrote
 
     pub getarg-carried : CarriesNode R.processor c i n S
     getarg-carried frames s returns out q at st = by (slice_get s.frame.args k) refl

@@ -53,7 +53,7 @@ use Rattle.lg_carry.specs.Carries.{leaps, Leads}
 use Rattle.lg_carry.specs.NodeBlocks.{IsNodeBlock}
 use Rattle.lg_carry.specs.NodeCode.{numbered, live_before, live_behind, is_return, CarriesNode}
 use Rattle.lg_carry.specs.Blocks.{spellings, StaysOutside, done, RunsBlock}
-use Rattle.lg_carry.specs.Spills.{IsFramePointer, in_slots, in_first_slots, HasRoom, Leaves, Does, wrapped, spilled, AreInOrder, lost}
+use Rattle.lg_carry.specs.Spills.{IsFramePointer, in_slots, in_first_slots, Leaves, Does, wrapped, spilled, AreInOrder, lost}
 use Rattle.lg_carry.specs.TemporariesApart.{IsSpare}
 use Rattle.lg_carry.specs.Frames.{at_call}
 use Rattle.lg_carry.proofs.AgreeInFrameLemmas.{settled, quiet-agrees}
@@ -225,11 +225,8 @@ module _ {Q I : Type 0} (R : Rows Q I) (scratch : ℕ → Bool) (fits : I → Ty
     stands : drop ((R.processor.seen q).pc - code_base) R.code ≡ spellings R.spelling is ++ k.more
     stands = ap (λ p. drop (p - code_base) R.code) here ∙ k.stands
 
-    pub room : HasRoom R is q
-    room = record {
-      low = omega (arith, here, k.low);
-      high = in-room R.code (spellings R.spelling is) k.more (R.processor.seen q).pc (omega (arith, here, k.low)) (some-wrapped R choices body some) stands isa.rows.small;
-    }
+    most : (R.processor.seen q).pc + length (spellings R.spelling is) ≤ code_base + most_code
+    most = in-room R.code (spellings R.spelling is) k.more (R.processor.seen q).pc (omega (arith, here, k.low)) (some-wrapped R choices body some) stands isa.rows.small
 
     -- where the portable machine may write there is no spill slot
     pub open-off : (a : ℕ) → is_open s a ≡ true → in_slots fp a ≡ false
@@ -314,7 +311,7 @@ module _ {Q I : Type 0} (R : Rows Q I) (scratch : ℕ → Bool) (fits : I → Ty
           record { before = fp-held; behind = left-other (frame_register target) other-frame ∙ fp-held; unspoiled = ap (λ b. b || scratch (frame_register target)) frame-untaken ∙ other-frame.kept; room_before = slots-room; room_behind = (let z = left-other (stack_register target) other-stack in let y = slots-room in omega (arith, z, y)); stack_unspoiled = ap (λ b. b || scratch (stack_register target)) stack-untaken ∙ other-stack.kept }
           does-left q (c.place i)
           record { runs = runs; has_registers = λ r. refl; has_bytes = λ p off. refl; has_slots = λ p on. st.seen.stack p (in-stack fp p is-fp.low is-fp.high on); has_mark = refl; has_flags = refl }
-          record { low = k.low; place = k.place; more = k.more; stands = k.stands; fit = k.fit; outside = subst (λ b. All (StaysOutside R b) is) (still-moves R.processor c i n t.here (still-inside R.processor.target n.op inside_op falls)) k.outside } (let z = room.high in omega (arith, z, here)) here
+          record { low = k.low; place = k.place; more = k.more; stands = k.stands; fit = k.fit; outside = subst (λ b. All (StaysOutside R b) is) (still-moves R.processor c i n t.here (still-inside R.processor.target n.op inside_op falls)) k.outside } (omega (arith, most, here)) here
 
       abbrev pub u : Q
       u = leaves.end

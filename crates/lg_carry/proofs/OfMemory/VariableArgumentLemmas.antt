@@ -133,7 +133,7 @@ module _ {Q I : Type 0} (R : Rows Q I) (scratch : ℕ → Bool) (fits : I → Ty
             }
 
         goes-there : (step c.nodes c.shape c.addresses s ≡ Undefined) ⊎ Leads R.processor c frames (live_behind frames n S s) i (step c.nodes c.shape c.addresses s) out q
-        goes-there = computes R scratch fits isa c i n S [] (code d e) refl refl x y (some d e) (none-harmless R scratch fits isa c i n S) frames s q at st.runs st.state steps-to out st.wrote
+        goes-there = computes R scratch fits isa c i n S [] (code d e) refl refl x y (none-harmless R scratch fits isa c i n S) frames s q at st.runs st.state steps-to out st.wrote
 
     pub next-argument-carried : CarriesNode R.processor c i n S
     next-argument-carried frames s returns out q at st = by (reg s e) refl

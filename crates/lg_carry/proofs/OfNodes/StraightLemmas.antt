@@ -3,6 +3,7 @@ use Rattle.lg_carry.proofs.TurnLemmas.{still-inside, still-turns}
 use Rattle.lg_carry.proofs.BelowLemmas.{not-below}
 use Rattle.std.proofs.Common.{◌≡◌, ◌≢◌, ℕ, ◌+◌, ◌-◌, ◌%◌, ◌<◌, ◌≤◌, ◌⊎◌, ⊎_elim, inl, inr, Bool, true, false, List, [], ◌∷◌, ◌++◌, Option, Some, None, refl, sym, ap, ◌∙◌, subst, arith, length, drop, length-append, append-nil, zero-add}
 use Rattle.std.specs.Prelude.{◌||◌, ◌&&◌, not, slice_get, slice_index, slice_index_or, if◌then◌else◌}
+use Rattle.std.specs.List.{All}
 use Rattle.std.proofs.lemmas.List.{length-drop}
 use Rattle.std.proofs.lemmas.Option.{slice_get_within}
 use Rattle.std.proofs.lemmas.Bool.{false_from_ne_true, cases_Bool, or_parts, or_cases}
@@ -47,7 +48,7 @@ use Rattle.lg_carry.proofs.OfNodes.HomesLemmas.{homes-same}
 use Rattle.lg_carry.specs.Places.{AreStacked}
 use Rattle.lg_carry.specs.Processors.{Seen, is_below, stack_of}
 use Rattle.lg_carry.specs.Registers.{HoldsCarry, CarryIs}
-use Rattle.lg_carry.specs.Rows.{Rows}
+use Rattle.lg_carry.specs.Rows.{Rows, AreRows}
 use Rattle.lg_carry.specs.Stands.{lowest, StatesAgree, Stands}
 use Rattle.lg_carry.specs.Carries.{leaps, Leads}
 use Rattle.lg_carry.specs.NodeBlocks.{IsNodeBlock}
@@ -106,23 +107,13 @@ in-room code xs more pc low long e small =
     let d = length-drop (pc - code_base) code in
     omega (arith, l, d, small, low, long)
 
-spelled-append : {I : Type 0} (spelling : I → List ℕ) (xs ys : List I) → length (spellings spelling (xs ++ ys)) ≡ length (spellings spelling xs) + length (spellings spelling ys)
-spelled-append spelling [] ys = sym (zero-add (length (spellings spelling ys)))
-spelled-append spelling (x ∷ xs) ys =
-    let a = length-append (spelling x) (spellings spelling (xs ++ ys)) in
-    let b = length-append (spelling x) (spellings spelling xs) in
-    let h = spelled-append spelling xs ys in
-    omega (arith, a, b, h)
-
-some-wrapped : {Q I : Type 0} (R : Rows Q I) (choices : List Choice) (body : List I) → 0 < length (spellings R.spelling body) → 0 < length (spellings R.spelling (wrapped R choices body))
-some-wrapped R [] body h = h
-some-wrapped R (Free r ∷ choices) body h = some-wrapped R choices body h
-some-wrapped R (Own r ∷ choices) body h = some-wrapped R choices body h
-some-wrapped R (Spill r k ∷ choices) body h =
-    let a = length-append (R.spelling (R.save r k)) (spellings R.spelling (wrapped R choices body ++ R.restore r k ∷ [])) in
-    let b = spelled-append R.spelling (wrapped R choices body) (R.restore r k ∷ []) in
-    let m = some-wrapped R choices body h in
-    omega (arith, a, b, m)
+-- instructions have bytes
+some-spelled : {Q I : Type 0} (R : Rows Q I) (fits : I → Type 0) → AreRows R fits → (is : List I) → All fits is → 0 < length is → 0 < length (spellings R.spelling is)
+some-spelled R fits rows [] h e = absurd (omega (arith, e))
+some-spelled R fits rows (x ∷ is) h e =
+    let a = length-append (R.spelling x) (spellings R.spelling is) in
+    let b = rows.long x (h 0 x (omega arith)) in
+    omega (arith, a, b)
 
 -- ---- the frame
 frame-pointer : (low size sp : ℕ) → low + size ≡ sp → 0x3FF00010 ≤ low → 272 ≤ size → sp % 16 ≡ 0 → sp ≤ 0x40000000 → IsFramePointer (frame_pointer sp)
@@ -183,7 +174,7 @@ pub record AreHarmless {Q I : Type 0} (R : Rows Q I) (c : Code) (i : ℕ) (n : N
   pub in_order : AreInOrder R 0 choices
 
 module _ {Q I : Type 0} (R : Rows Q I) (scratch : ℕ → Bool) (fits : I → Type 0) (isa : IsIsa R scratch fits) (c : Code) (i : ℕ) (n : Node) (S : ℕ → Bool) (choices : List Choice) (body : List I) (inside_op : stands_inside n.op ≡ true) (falls : leaps n.op ≡ false)
-    (t : IsInText c i n) (k : IsNodeBlock R fits c i (wrapped R choices body)) (some : 0 < length (spellings R.spelling body)) (h : AreHarmless R c i n S choices) where
+    (t : IsInText c i n) (k : IsNodeBlock R fits c i (wrapped R choices body)) (h : AreHarmless R c i n S choices) where
   abbrev target : Target
   target = R.processor.target
 
@@ -290,7 +281,7 @@ module _ {Q I : Type 0} (R : Rows Q I) (scratch : ℕ → Bool) (fits : I → Ty
     pub room : HasRoom R is q
     room = record {
       low = omega (arith, here, k.code.low);
-      high = in-room R.code (spellings R.spelling is) k.code.more (R.processor.seen q).pc (omega (arith, here, k.code.low)) (some-wrapped R choices body some) stands isa.rows.small;
+      high = λ z. in-room R.code (spellings R.spelling is) k.code.more (R.processor.seen q).pc (omega (arith, here, k.code.low)) (some-spelled R fits isa.rows is k.code.fit z) stands isa.rows.small;
     }
 
     -- where the portable machine may write there is no spill slot
@@ -485,12 +476,12 @@ module _ {Q I : Type 0} (R : Rows Q I) (scratch : ℕ → Bool) (fits : I → Ty
   carried : (c : Code) (i : ℕ) (n : Node) (frame : ℕ) (S : ℕ → Bool) (choices : List Choice) (body : List I) → stands_inside n.op ≡ true → leaps n.op ≡ false → IsInText c i n → IsFrameOf c i frame → IsNodeBlock R fits c i (wrapped R choices body)
       → ComputesNode R scratch c i n frame choices body → AreHarmless R c i n S choices → CarriesNode R.processor c i n S
   carried c i n frame S choices body inside falls t is-frame k m h frames s returns out q at st =
-      by (m.steps s q at (read-before R scratch fits isa c i n S choices body inside falls t k m.some h frames s q at st.runs st.state frame is-frame))
+      by (m.steps s q at (read-before R scratch fits isa c i n S choices body inside falls t k h frames s q at st.runs st.state frame is-frame))
     where
       by : (step c.nodes c.shape c.addresses s ≡ Undefined) ⊎ StepsTo R scratch c n choices body s (R.processor.seen q)
           → (step c.nodes c.shape c.addresses s ≡ Undefined) ⊎ Leads R.processor c frames (live_behind frames n S s) i (step c.nodes c.shape c.addresses s) out q
       by (inl e) = inl e
-      by (inr p) = computes R scratch fits isa c i n S choices body inside falls t k m.some h frames s q at st.runs st.state p out st.wrote
+      by (inr p) = computes R scratch fits isa c i n S choices body inside falls t k h frames s q at st.runs st.state p out st.wrote
 
   -- the choices for the needs of a node are harmless
   pub harmless : (c : Code) (i : ℕ) (n : Node) (live : Reg → Bool) (staged : List Bool) (needs : List Need) (choices : List Choice) → NeedWell R needs → length needs ≤ 3

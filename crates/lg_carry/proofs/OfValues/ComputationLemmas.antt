@@ -1,5 +1,5 @@
 -- Code that only computes: what a list of its instructions does, and that a node of it is one whose code goes straight on.
-use Rattle.std.proofs.Common.{◌≡◌, ℕ, ◌+◌, ◌≤◌, ◌⊎◌, inl, inr, Bool, true, false, List, [], ◌∷◌, ◌++◌, refl, ap, ◌∙◌, arith, length, length-append}
+use Rattle.std.proofs.Common.{◌≡◌, ℕ, ◌+◌, ◌<◌, ◌≤◌, ◌⊎◌, inl, inr, Bool, true, false, List, [], ◌∷◌, ◌++◌, refl, ap, ◌∙◌, arith, length, length-append}
 use Rattle.std.specs.Prelude.{◌&&◌}
 use Rattle.std.proofs.lemmas.Bool.{and_parts}
 use Rattle.lg_base.specs.Layout.{code_base, most_code, frame_pointer}
@@ -37,13 +37,14 @@ pub record RunsThrough {Q I : Type 0} (M : Computer Q I) (is : List I) (q : Q) :
 
 module _ {Q I : Type 0} (M : Computer Q I) (ok : IsComputer M) where
   pub computations-run : (is : List I) (q : Q) → all_compute M.computes is ≡ true → M.rows.processor.machine.status q ≡ Running → code_base ≤ (M.rows.processor.seen q).pc
-      → (M.rows.processor.seen q).pc + length (spellings M.rows.spelling is) ≤ code_base + most_code → RunsThrough M is q
+      → (0 < length is → (M.rows.processor.seen q).pc + length (spellings M.rows.spelling is) ≤ code_base + most_code) → RunsThrough M is q
   computations-run [] q h runs low high = record { through = tt; runs = runs; behind = omega arith; holds = refl; bytes = λ a. refl; mark = refl }
   computations-run (i ∷ is) q h runs low high =
       let b = and_parts (M.computes i) (all_compute M.computes is) h in
       let long = spelled-cons M.rows.spelling i is in
-      let one : Computes M i q (M.rows.does i q) = ok i q b.0 runs low (omega (arith, high, long)) in
-      let m = computations-run is (M.rows.does i q) b.1 one.runs (omega (arith, low, one.behind)) (omega (arith, high, long, one.behind)) in
+      let most = high (omega arith) in
+      let one : Computes M i q (M.rows.does i q) = ok i q b.0 runs low (omega (arith, most, long)) in
+      let m = computations-run is (M.rows.does i q) b.1 one.runs (omega (arith, low, one.behind)) (λ z. omega (arith, most, long, one.behind)) in
       record {
         through = (runs, one.above, m.through);
         runs = m.runs;
@@ -73,7 +74,7 @@ module _ {Q I : Type 0} (M : Computer Q I) (ok : IsComputer M) where
 
   -- a node whose code only computes goes straight on
   pub computing-computes : (scratch : ℕ → Bool) (c : Code) (i : ℕ) (n : Node) (frame : ℕ) (choices : List Choice) (body : List I) → ComputingNode M scratch c i n choices body → ComputesNode M.rows scratch c i n frame choices body
-  computing-computes scratch c i n frame choices body k = record { some = k.some; steps = λ s q at h. by s (M.rows.processor.seen q) (k.steps s record { registers = (M.rows.processor.seen q).registers; flags = (M.rows.processor.seen q).flags } at (read s (M.rows.processor.seen q) h)) }
+  computing-computes scratch c i n frame choices body k = record { steps = λ s q at h. by s (M.rows.processor.seen q) (k.steps s record { registers = (M.rows.processor.seen q).registers; flags = (M.rows.processor.seen q).flags } at (read s (M.rows.processor.seen q) h)) }
     where
       read : (s : State) (v : Seen) → HoldsRead M.rows.processor.target n frame s v → HeldRead M.rows.processor.target n s record { registers = v.registers; flags = v.flags }
       read s v h = record { registers = h.registers; words = h.in_frame.seen.words; carry = h.carry; result = h.result }

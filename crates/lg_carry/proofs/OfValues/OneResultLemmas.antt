@@ -52,7 +52,6 @@ module _ {Q I : Type 0} (M : Computer Q I) (scratch : ℕ → Bool) (c : Code) (
 
   pub binary-computes : ComputingNode M scratch c i n choices body
   binary-computes = record {
-    some = into.some;
     computes = into.computes;
     keeps = λ w r k. into.keeps w r (kept-apart M.rows.processor.target n d named writes scratch choices r k, tt) k.taken k.spoilt k.carry;
     steps = λ s w at h. by s w h (two-given (reg s a) (value c.addresses s x) (binary_value o) (λ m k v. on (with_reg s (operand.Reg d) v)) (step c.nodes c.shape c.addresses s) (step-is c i n s t at ∙ plain-step c o s n plain));
@@ -96,7 +95,6 @@ module _ {Q I : Type 0} (M : Computer Q I) (scratch : ℕ → Bool) (c : Code) (
 
   pub carried-computes : ComputingNode M scratch c i cn choices body
   carried-computes = record {
-    some = into.some;
     computes = into.computes;
     keeps = λ w r k. into.keeps w r (kept-apart M.rows.processor.target cn d named carried-writes scratch choices r k, tt) k.taken k.spoilt k.carry;
     steps = λ s w at h. by s w h (two-given (reg s a) (value c.addresses s x) (λ m k. carry_in o s.carry) (reached s) (step c.nodes c.shape c.addresses s) (step-is c i cn s t at ∙ only-carried c o s cn carries));

@@ -33,7 +33,7 @@ module _ {Q I : Type 0} (M : Computer Q I) (scratch : ℕ → Bool) (c : Code) (
   keeps-all w r k = into.keeps w r (kept-apart M.rows.processor.target n d named writes scratch choices r k, tt) k.taken k.spoilt k.carry
 
   pub one-word : ((s : State) → s.at ≡ i → step c.nodes c.shape c.addresses s ≡ need (given s) (λ m. quiet (on (with_reg s (operand.Reg d) (value m))))) → ComputingNode M scratch c i n choices body
-  one-word steps_so = record { some = into.some; computes = into.computes; keeps = keeps-all; steps = λ s w at h. by s w h (one-given (given s) (λ m. on (with_reg s (operand.Reg d) (value m))) (step c.nodes c.shape c.addresses s) (steps_so s at)) }
+  one-word steps_so = record { computes = into.computes; keeps = keeps-all; steps = λ s w at h. by s w h (one-given (given s) (λ m. on (with_reg s (operand.Reg d) (value m))) (step c.nodes c.shape c.addresses s) (steps_so s at)) }
     where
       by : (s : State) (w : Held) → HeldRead M.rows.processor.target n s w → (step c.nodes c.shape c.addresses s ≡ Undefined) ⊎ OneGiven (given s) (λ m. on (with_reg s (operand.Reg d) (value m))) (step c.nodes c.shape c.addresses s)
           → (step c.nodes c.shape c.addresses s ≡ Undefined) ⊎ HeldTo M.rows.processor.target c n s (computed M.computed_by body w)
@@ -47,7 +47,7 @@ module _ {Q I : Type 0} (M : Computer Q I) (scratch : ℕ → Bool) (c : Code) (
 
   pub one-word-kept : ((s : State) (w : Held) → HeldRead M.rows.processor.target n s w → HoldsCarry M.rows.processor.target (computed M.computed_by body w).registers (carry_of (computed M.computed_by body w).flags) s.carry)
       → ((s : State) → s.at ≡ i → step c.nodes c.shape c.addresses s ≡ need (given s) (λ m. quiet (on_with_carry (with_reg s (operand.Reg d) (value m))))) → ComputingNode M scratch c i n choices body
-  one-word-kept carries steps_so = record { some = into.some; computes = into.computes; keeps = keeps-all; steps = λ s w at h. by s w h (one-given (given s) (λ m. on_with_carry (with_reg s (operand.Reg d) (value m))) (step c.nodes c.shape c.addresses s) (steps_so s at)) }
+  one-word-kept carries steps_so = record { computes = into.computes; keeps = keeps-all; steps = λ s w at h. by s w h (one-given (given s) (λ m. on_with_carry (with_reg s (operand.Reg d) (value m))) (step c.nodes c.shape c.addresses s) (steps_so s at)) }
     where
       by : (s : State) (w : Held) → HeldRead M.rows.processor.target n s w → (step c.nodes c.shape c.addresses s ≡ Undefined) ⊎ OneGiven (given s) (λ m. on_with_carry (with_reg s (operand.Reg d) (value m))) (step c.nodes c.shape c.addresses s)
           → (step c.nodes c.shape c.addresses s ≡ Undefined) ⊎ HeldTo M.rows.processor.target c n s (computed M.computed_by body w)

@@ -139,7 +139,6 @@ module _ {Q I : Type 0} (M : Computer Q I) (scratch : ℕ → Bool) (c : Code) (
 
   pub wide-computed : ComputingNode M scratch c i n choices body
   wide-computed = record {
-    some = into.some;
     computes = into.computes;
     keeps = λ w r k. into.keeps w r (k.written d nd (writes-first M.rows.processor.target n d e nd ne apart writes), (k.written e ne (writes-second M.rows.processor.target n d e nd ne apart writes), tt)) k.taken k.spoilt k.carry;
     steps = λ s w at h. by s w h (two-given (reg s a) (value c.addresses s x) (wide_value o) (λ m k p. to s p) (step c.nodes c.shape c.addresses s) (step-is c i n s t at));

@@ -114,7 +114,6 @@ pub record StepsTo {Q I : Type 0} (R : Rows Q I) (scratch : ℕ → Bool) (c : C
 
 pub record ComputesNode {Q I : Type 0} (R : Rows Q I) (scratch : ℕ → Bool) (c : Code) (i : ℕ) (n : Node) (frame : ℕ) (choices : List Choice)
     (body : List I) : Type 0 where
-  pub some : 0 < length (spellings R.spelling body)
   pub steps : (s : State) (q : Q) → s.at ≡ i → HoldsRead R.processor.target n frame s (R.processor.seen q)
       → (step c.nodes c.shape c.addresses s ≡ Undefined) ⊎ StepsTo R scratch c n choices body s (R.processor.seen q)
 

@@ -76,7 +76,6 @@ pub record HeldTo (target : Target) (c : Code) (n : Node) (s : State) (u : Held)
 -- the code computes, keeps what it has to, and from each state at the node the step is undefined, or is what the code computes
 pub record ComputingNode {Q I : Type 0} (M : Computer Q I) (scratch : ℕ → Bool) (c : Code) (i : ℕ) (n : Node) (choices : List Choice)
     (body : List I) : Type 0 where
-  pub some : 0 < length (spellings M.rows.spelling body)
   pub computes : all_compute M.computes body ≡ true
   pub keeps : (w : Held) (x : ℕ) → IsKept M.rows.processor.target scratch n choices x → (computed M.computed_by body w).registers x ≡ w.registers x
   pub steps : (s : State) (w : Held) → s.at ≡ i → HeldRead M.rows.processor.target n s w

@@ -33,7 +33,6 @@ StandsForNone target (d ∷ ds) x = (x ≢ register_of target d) × StandsForNon
 
 -- code that computes, and keeps each register but those of these results, temporaries, scratch registers and that of the carry
 pub record ComputesInto {Q I : Type 0} (M : Computer Q I) (scratch : ℕ → Bool) (results : List Reg) (choices : List Choice) (body : List I) : Type 0 where
-  pub some : 0 < length (spellings M.rows.spelling body)
   pub computes : all_compute M.computes body ≡ true
   pub keeps : (w : Held) (x : ℕ) → StandsForNone M.rows.processor.target results x → is_taken choices x ≡ false → scratch x ≡ false
       → carry_register M.rows.processor.target ≢ Some x → (computed M.computed_by body w).registers x ≡ w.registers x

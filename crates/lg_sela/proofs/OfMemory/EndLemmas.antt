@@ -40,7 +40,7 @@ access-does code trash x s W M fp T does q looks room =
     let d = does q.state looks.has_registers looks.has_bytes in
     let e : a64_does x q ≡ after q (arrives (add_words q.state.pc 4) d.registers q.state.flags d.bytes q.state.mark) = went q (act x q.state) looks.runs ∙ ap (after q) d.effect in
     let long = spellings-long (x ∷ []) in
-    let near : q.state.pc + 4 ≤ code_base + most_code = omega (arith, room.high, long) in
+    let near : q.state.pc + 4 ≤ code_base + most_code = (let z = room.high (omega arith) in omega (arith, z, long)) in
     record {
       through = (looks.runs, d.above, tt);
       runs = ap (λ r. status_of r.progress) e ∙ goes-on q.state.pc room.low near;

@@ -133,14 +133,12 @@ off-link x e = λ z. absurd (grind (arith, e, z))
 
 -- instructions that compute, and keep each register but these results, temporaries and the link
 pub record KeepsBut (results : List Portable) (choices : List Choice) (body : List Instr) : Type 0 where
-  pub some : 0 < length body
   pub computes : all_compute body ≡ true
   pub keeps : (w : Held) (r : ℕ) → StandsForNone Aarch64 results r → is_taken choices r ≡ false → r ≢ link → (computed body w).registers r ≡ w.registers r
 
 pub into : (code : List ℕ) (trash : ℕ) (results : List Portable) (choices : List Choice) (body : List Instr) → KeepsBut results choices body
     → ComputesInto (a64_computer code trash) a64_scratch results choices body
 into code trash results choices body h = record {
-  some = let l = spellings-long body in let s = h.some in omega (arith, l, s);
   computes = h.computes;
   keeps = λ w x apart taken off carry. h.keeps w x apart taken (off-link x off);
 }

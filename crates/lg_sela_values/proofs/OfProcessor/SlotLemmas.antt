@@ -74,8 +74,8 @@ are-spills code trash = record {
       let e : a64_does (Unscaled Stur r 29 (slot_offset k)) q ≡ after q (arrives (add_words q.state.pc 4) q.state.registers q.state.flags (stored q.state.bytes (spill_word fp k) 8 (q.state.registers r)) q.state.mark) = went q _ running ∙ ap (after q) (save-act q.state r k fp can few f at slots) in
       record {
         above = slot-above q.state.registers k fp few f low at;
-        runs = ap (λ s. status_of s.progress) e ∙ goes-on q.state.pc room.low (omega (arith, room.high));
-        behind = ap (λ s. s.state.pc) e ∙ pc-next q.state.pc (omega (arith, room.high));
+        runs = ap (λ s. status_of s.progress) e ∙ goes-on q.state.pc room.low (let z = room.high (omega arith) in omega (arith, z));
+        behind = ap (λ s. s.state.pc) e ∙ pc-next q.state.pc (let z = room.high (omega arith) in omega (arith, z));
         registers = λ x. ap (λ s. s.state.registers x) e;
         bytes = λ a. ap (λ s. s.state.bytes a) e;
         marks = (ap (λ s. s.state.mark) e, ap (λ s. nzcv s.state.flags) e);
@@ -84,8 +84,8 @@ are-spills code trash = record {
       let e : a64_does (Unscaled Ldur r 29 (slot_offset k)) q ≡ after q (computes q.state (put q.state.registers r w) q.state.flags) = went q _ running ∙ ap (after q) (restore-act q.state r k fp w can few f at held) in
       record {
         above = slot-above q.state.registers k fp few f low at;
-        runs = ap (λ s. status_of s.progress) e ∙ goes-on q.state.pc room.low (omega (arith, room.high));
-        behind = ap (λ s. s.state.pc) e ∙ pc-next q.state.pc (omega (arith, room.high));
+        runs = ap (λ s. status_of s.progress) e ∙ goes-on q.state.pc room.low (let z = room.high (omega arith) in omega (arith, z));
+        behind = ap (λ s. s.state.pc) e ∙ pc-next q.state.pc (let z = room.high (omega arith) in omega (arith, z));
         registers = λ x. ap (λ s. s.state.registers x) e;
         bytes = λ a. ap (λ s. s.state.bytes a) e;
         marks = (ap (λ s. s.state.mark) e, ap (λ s. nzcv s.state.flags) e);

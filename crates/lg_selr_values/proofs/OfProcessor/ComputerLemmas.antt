@@ -60,13 +60,11 @@ off-carry x e = λ z. e (ap Some (sym z))
 
 -- instructions that compute, and keep each register but these results, temporaries, the link and the carry
 pub record KeepsBut (results : List Reg) (choices : List Choice) (body : List Instr) : Type 0 where
-  pub some : 0 < length body
   pub computes : all_compute body ≡ true
   pub keeps : (w : ℕ → ℕ) (r : ℕ) → StandsForNone Riscv64 results r → is_taken choices r ≡ false → r ≢ 1 → r ≢ 31 → computed body w r ≡ w r
 
 pub into : (code : List ℕ) (trash : ℕ) (results : List Reg) (choices : List Choice) (body : List Instr) → KeepsBut results choices body → ComputesInto (rv_computer code trash) rv_scratch results choices body
 into code trash results choices body h = record {
-  some = let l = spellings-long body in omega (arith, l, h.some);
   computes = h.computes;
   keeps = λ w x apart taken off carry. held-at body w x (w.registers x) (h.keeps w.registers x apart taken (off-link x off) (off-carry x carry));
 }

@@ -78,8 +78,8 @@ are-spills code trash = record {
       let e : rv_does (Store Sd 8 r (slot_offset k)) q ≡ after q (goes (add_words q.state.pc 4) q.state.registers (stored q.state.bytes (spill_word fp k) 8 (q.state.registers r)) q.state.mark) = went q _ running ∙ ap (after q) (save-act q.state r k fp can few f at slots) in
       record {
         above = slot-above q.state.registers k fp few f low at;
-        runs = ap (λ s. status_of s.progress) e ∙ goes-on q.state.pc room.low (omega (arith, room.high));
-        behind = ap (λ s. s.state.pc) e ∙ pc-next q.state.pc (omega (arith, room.high));
+        runs = ap (λ s. status_of s.progress) e ∙ goes-on q.state.pc room.low (let z = room.high (omega arith) in omega (arith, z));
+        behind = ap (λ s. s.state.pc) e ∙ pc-next q.state.pc (let z = room.high (omega arith) in omega (arith, z));
         registers = λ x. ap (λ s. s.state.registers x) e;
         bytes = λ a. ap (λ s. s.state.bytes a) e;
         marks = (ap (λ s. s.state.mark) e, refl);
@@ -88,8 +88,8 @@ are-spills code trash = record {
       let e : rv_does (Imm Ld r 8 (slot_offset k)) q ≡ after q (sets q.state r w) = went q _ running ∙ ap (after q) (restore-act q.state r k fp w few f at held) in
       record {
         above = slot-above q.state.registers k fp few f low at;
-        runs = ap (λ s. status_of s.progress) e ∙ goes-on q.state.pc room.low (omega (arith, room.high));
-        behind = ap (λ s. s.state.pc) e ∙ pc-next q.state.pc (omega (arith, room.high));
+        runs = ap (λ s. status_of s.progress) e ∙ goes-on q.state.pc room.low (let z = room.high (omega arith) in omega (arith, z));
+        behind = ap (λ s. s.state.pc) e ∙ pc-next q.state.pc (let z = room.high (omega arith) in omega (arith, z));
         registers = λ x. ap (λ s. s.state.registers x) e;
         bytes = λ a. ap (λ s. s.state.bytes a) e;
         marks = (ap (λ s. s.state.mark) e, refl);

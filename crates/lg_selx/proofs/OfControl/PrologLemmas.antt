@@ -211,7 +211,7 @@ module _ (code : List ℕ) (trash : ℕ) (small : length code ≤ most_code) (by
   ran : RunsMakings all q (scene W q.state.flags b)
   ran = makings-run all q (scene W q.state.flags b) (prolog-makes size homes saved sp v q.state.flags q.state.bytes large room top at (λ j e. seen.stack j e))
       (prolog-above size homes saved sp v q.state.flags q.state.bytes large room top at (λ j e. seen.stack j e)) runs (let l = k.low in omega (arith, l, here))
-      (let h = stands-high true code trash small bytes-small trash-word from all (omega arith) k in omega (arith, h, here))
+      (λ z. let h = stands-high true code trash small bytes-small trash-word from all (omega arith) k in omega (arith, h, here))
 
   -- the last of them alone moves the stack pointer
   abbrev front : List Instr

@@ -77,7 +77,7 @@ module _ (moves : Bool) (code : List ℕ) (trash : ℕ) (small : length code ≤
 
     pub front-ran : AreAbove front (scene_of q.state) → RunsMakings front q t
     front-ran above =
-        let l = k.low in let s = front-size in let h = front-top in makings-run front q t made above runs (omega (arith, l, at)) (omega (arith, s, h, at))
+        let l = k.low in let s = front-size in let h = front-top in makings-run front q t made above runs (omega (arith, l, at)) (λ z. omega (arith, s, h, at))
 
     -- the state before that one
     abbrev pub front_state : CpuState
@@ -126,7 +126,7 @@ module _ (moves : Bool) (code : List ℕ) (trash : ℕ) (small : length code ≤
       → behind (x86_rows code trash) from is ≤ code_base + most_code → Made from is t q
   made-passed from is q t k made above runs at room =
       let l = k.low in
-      let ran = makings-run is q t made above runs (omega (arith, l, at)) (omega (arith, room, at)) in record {
+      let ran = makings-run is q t made above runs (omega (arith, l, at)) (λ z. omega (arith, room, at)) in record {
         end = done x86_does is q;
         passes = stretches.all-passed (x86_rows code trash) IsInstr rows moves from is q (done x86_does is q) k at (makes-block is (scene_of q.state) t made)
             ran.through (λ j. done x86_does is q);

@@ -280,13 +280,14 @@ pub makings-run : MakingsRun
 makings-run [] q t e above runs low high = let z : scene_of q.state ≡ t = cc in record { through = tt; runs = runs; behind = omega arith; scene = z; mark = refl; out = refl }
 makings-run (i ∷ is) q t e above runs low high =
     let h = first i is (scene_of q.state) t e in
+    let most = high (omega arith) in
     let n : ℕ = length (spelling i) in
     let l : length (spellings spelling (i ∷ is)) ≡ n + length (spellings spelling is) = length-append (spelling i) (spellings spelling is) in
     let f : x86_does i q ≡ after q (goes (add_words q.state.pc n) h.by q.state.mark) =
     went q (act i n q.state) runs ∙ ap (after q) (straight-does i (add_words q.state.pc n) q.state (makes-straight i (scene_of q.state) h.by h.makes_it) ∙ ap (goes_with q.state (add_words q.state.pc n) (fault_of i)) h.makes_it) in
-    let pc : (x86_does i q).state.pc ≡ q.state.pc + n = ap (λ s. s.state.pc) f ∙ pc-next q.state.pc n (omega (arith, high, l)) in
-    let goes_on : status_of (x86_does i q).progress ≡ Running = ap (λ s. status_of s.progress) f ∙ goes-on q.state.pc n low (omega (arith, high, l)) in
-    let m = makings-run is (x86_does i q) t (ap (λ s. makes is (scene_of s.state)) f ∙ h.then_makes) (subst (λ s. AreAbove is (scene_of s.state)) (sym f) (above.1 h.by h.makes_it)) goes_on (omega (arith, low, pc)) (omega (arith, high, pc, l)) in
+    let pc : (x86_does i q).state.pc ≡ q.state.pc + n = ap (λ s. s.state.pc) f ∙ pc-next q.state.pc n (omega (arith, most, l)) in
+    let goes_on : status_of (x86_does i q).progress ≡ Running = ap (λ s. status_of s.progress) f ∙ goes-on q.state.pc n low (omega (arith, most, l)) in
+    let m = makings-run is (x86_does i q) t (ap (λ s. makes is (scene_of s.state)) f ∙ h.then_makes) (subst (λ s. AreAbove is (scene_of s.state)) (sym f) (above.1 h.by h.makes_it)) goes_on (omega (arith, low, pc)) (λ z. omega (arith, most, pc, l)) in
     record {
       through = (runs, above.0, m.through);
       runs = m.runs;

@@ -44,6 +44,5 @@ module _ (code : List ℕ) (trash : ℕ) (c : Code) (i : ℕ) (n : Node) (frame 
 
 pub making-nodes-compute : MakingNodesCompute
 making-nodes-compute code trash c i n frame choices body m = record {
-  some = m.some;
   steps = λ s q at h. steps code trash c i n frame choices body m s ((x86_rows code trash).processor.seen q) h (m.steps s ((x86_rows code trash).processor.seen q) at h);
 }

@@ -81,8 +81,8 @@ are-spills code trash = record {
       went q (act i n q.state) running ∙ ap (λ o. after q (goes_with q.state (add_words q.state.pc n) Memory o)) (save-made (scene_of q.state) r k fp few f at slots) in
       record {
         above = slot-above q.state.registers k fp few f low at;
-        runs = ap (λ s. status_of s.progress) e ∙ goes-on q.state.pc n room.low (omega (arith, room.high, l));
-        behind = ap (λ s. s.state.pc) e ∙ pc-next q.state.pc n (omega (arith, room.high, l)) ∙ omega (arith, l);
+        runs = ap (λ s. status_of s.progress) e ∙ goes-on q.state.pc n room.low (let z = room.high (omega arith) in omega (arith, z, l));
+        behind = ap (λ s. s.state.pc) e ∙ pc-next q.state.pc n (let z = room.high (omega arith) in omega (arith, z, l)) ∙ omega (arith, l);
         registers = λ x. ap (λ s. s.state.registers x) e;
         bytes = λ a. ap (λ s. s.state.bytes a) e;
         marks = (ap (λ s. s.state.mark) e, ap (λ s. s.state.flags) e);
@@ -95,8 +95,8 @@ are-spills code trash = record {
       went q (act i n q.state) running ∙ ap (λ o. after q (goes_with q.state (add_words q.state.pc n) Memory o)) (restore-made (scene_of q.state) r k fp w few f at held) in
       record {
         above = slot-above q.state.registers k fp few f low at;
-        runs = ap (λ s. status_of s.progress) e ∙ goes-on q.state.pc n room.low (omega (arith, room.high, l));
-        behind = ap (λ s. s.state.pc) e ∙ pc-next q.state.pc n (omega (arith, room.high, l)) ∙ omega (arith, l);
+        runs = ap (λ s. status_of s.progress) e ∙ goes-on q.state.pc n room.low (let z = room.high (omega arith) in omega (arith, z, l));
+        behind = ap (λ s. s.state.pc) e ∙ pc-next q.state.pc n (let z = room.high (omega arith) in omega (arith, z, l)) ∙ omega (arith, l);
         registers = λ x. ap (λ s. s.state.registers x) e;
         bytes = λ a. ap (λ s. s.state.bytes a) e;
         marks = (ap (λ s. s.state.mark) e, ap (λ s. s.state.flags) e);

@@ -35,7 +35,6 @@ pub record StepsBy (c : Code) (n : Node) (choices : List Choice) (body : List In
   pub holds : HoldsWritten X86_64 n s to end flags
 
 pub record MakesNode (c : Code) (i : ℕ) (n : Node) (frame : ℕ) (choices : List Choice) (body : List Instr) : Type 0 where
-  pub some : 0 < length (spellings spelling body)
   pub steps : (s : State) (q : Seen) → s.at ≡ i → HoldsRead X86_64 n frame s q → (step c.nodes c.shape c.addresses s ≡ Undefined) ⊎ StepsBy c n choices body s q
 
 -- such a node is one whose code goes straight on

@@ -7,7 +7,7 @@ use Rattle.lg_x86.specs.declared.instruction.Instr.TheVariants.{Load, Store, Sta
 use Rattle.lg_base.specs.declared.target.Target.TheVariants.{X86_64}
 use Rattle.lg_carry.specs.Processors.{IsOff, is_below}
 use Rattle.lg_sel.specs.X86Touched.{touched}
-use Rattle.std.specs.Prelude.{◌≡◌, ℕ, ◌+◌, ◌≤◌, Bool, true, false, ⊤, List, [], ◌∷◌, length, Option, Some}
+use Rattle.std.specs.Prelude.{◌≡◌, ℕ, ◌+◌, ◌<◌, ◌≤◌, Bool, true, false, ⊤, List, [], ◌∷◌, length, Option, Some}
 use Rattle.std.specs.Option.{option_and_then}
 use Rattle.lg_base.specs.Layout.{code_base, most_code}
 use Rattle.lg_base.specs.Runs.{Running}
@@ -52,4 +52,4 @@ pub record RunsMakings (is : List Instr) (q : Run CpuState) (t : Scene) : Type 0
 abbrev pub MakingsRun : Type 0
 MakingsRun =
     (is : List Instr) (q : Run CpuState) (t : Scene) → makes is (scene_of q.state) ≡ Some t → AreAbove is (scene_of q.state) → status_of q.progress ≡ Running
-    → code_base ≤ q.state.pc → q.state.pc + length (spellings spelling is) ≤ code_base + most_code → RunsMakings is q t
+    → code_base ≤ q.state.pc → (0 < length is → q.state.pc + length (spellings spelling is) ≤ code_base + most_code) → RunsMakings is q t
