@@ -1,27 +1,26 @@
 // The table of A64.
 
-ghost use Rattle.std.specs.Prelude.{pos, ◌≤ℤ◌};
+ghost use Rattle.std.specs.Prelude.{pos, ◌≤ℤ◌, IfOk, IfSome};
+ghost use Rattle.lg_evidence.specs.Found.{StandsInFront};
 
-use crate::table::{Found, Operands, Table, spoken};
+use crate::table::{Found, Operands, spoken};
 use lg_a64::{Instr, ScaledOp, decode, encode};
 use std::alloc::{AllocError, Global};
 
-/// A64.
-pub struct Aarch64;
-
-impl Table for Aarch64 {
-    fn find(alloc: Global, bytes: &[u8]) -> Result<Option<Found>, AllocError> {
-        match decode(bytes) {
-            None => Ok(None),
-            Some((instr, length)) => {
-                let operation = spoken(alloc, &instr.name(), operands(&instr))?;
-                let spelling = encode(&instr);
-                Ok(Some(Found {
-                    operation,
-                    length,
-                    spelling,
-                }))
-            }
+/// The instruction that the bytes begin with, if they begin with one.
+pub fn find(alloc: Global, bytes: &[u8]) -> Result<Option<Found>, AllocError>
+    ensures { IfOk result (λ answer. IfSome answer (StandsInFront bytes.now)) }
+{
+    match decode(bytes) {
+        None => Ok(None),
+        Some((instr, length)) => {
+            let operation = spoken(alloc, &instr.name(), operands(&instr))?;
+            let spelling = encode(&instr);
+            Ok(Some(Found {
+                operation,
+                length,
+                spelling,
+            }))
         }
     }
 }

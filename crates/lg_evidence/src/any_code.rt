@@ -26,16 +26,18 @@ fn print(rt: &HostRuntime, name: &str, outcome: &Outcome) -> io::Result<()> {
         flag,
         host,
     } = outcome.tally;
-    println!(rt; "{name}: {ended} ended, {went_on} went on, {write} failed to write")?;
-    println!(rt; "{name}: Fetch {fetch}, Decode {decode}, Memory {memory}, Align {align}")?;
-    println!(rt; "{name}: Divide {divide}, Flag {flag}, Host {host}")?;
     let Outcome {
         steps,
         sum,
         changed,
         ..
     } = outcome;
-    println!(rt; "{name}: {steps} steps, {changed} answers changed, sum {sum}")
+    println!(rt;
+        "{name}: {ended} ended, {went_on} went on, {write} failed to write\n\
+        {name}: Fetch {fetch}, Decode {decode}, Memory {memory}, Align {align}\n\
+        {name}: Divide {divide}, Flag {flag}, Host {host}\n\
+        {name}: {steps} steps, {changed} answers changed, sum {sum}"
+    )
 }
 
 /// Runs any bytes on each processor, and prints what the runs came to.

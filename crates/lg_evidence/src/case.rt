@@ -20,18 +20,18 @@ pub struct Case<'a> {
 }
 
 // A column of a line, from 0 on.
-fn column(line: &str, number: usize) -> Option<&str> {
-    line.split('\t').nth(number)
+fn column(line: &str, number: usize) -> &str {
+    line.split('\t').nth(number).unwrap_or("")
 }
 
 /// The columns of a line on single steps, of which there are six.
 pub fn parse_case(line: &str) -> Option<Case<'_>> {
-    let (answer, after) = column(line, 4)?.split_once(' ')?;
-    let _how = column(line, 5)?;
+    let _how = line.split('\t').nth(5)?;
+    let (answer, after) = column(line, 4).split_once(' ')?;
     Some(Case {
-        steps: column(line, 0)?.parse().ok()?,
-        hex: column(line, 2)?,
-        before: column(line, 3)?,
+        steps: column(line, 0).parse().ok()?,
+        hex: column(line, 2),
+        before: column(line, 3),
         after,
         answer,
     })
@@ -50,11 +50,11 @@ pub struct Program<'a> {
 
 /// The columns of a line on a program, of which there are six.
 pub fn parse_program(line: &str) -> Option<Program<'_>> {
-    let _how = column(line, 5)?;
+    let _how = line.split('\t').nth(5)?;
     Some(Program {
-        hex: column(line, 2)?,
-        most: column(line, 3)?.parse().ok()?,
-        outcome: column(line, 4)?,
+        hex: column(line, 2),
+        most: column(line, 3).parse().ok()?,
+        outcome: column(line, 4),
     })
 }
 
@@ -102,7 +102,7 @@ pub fn parse_item(target: Target, text: &str) -> Option<Item> {
 
 // a flag or a register
 fn parse_named(target: Target, name: &str, value: &str) -> Option<Item> {
-    match flag_of(target, name) {
+    match number_in(FLAGS, target, name) {
         Some(number) => Some(Item::Flag {
             number,
             value: parse_flag(value)?,
@@ -123,37 +123,47 @@ fn parse_flag(text: &str) -> Option<Option<bool>> {
     }
 }
 
-// the number of a flag, in the order of the variants of `Flags`
-fn flag_of(target: Target, name: &str) -> Option<u8> {
-    match (target, name) {
-        (Target::X86_64, "CF") | (Target::Aarch64, "N") => Some(0),
-        (Target::X86_64, "OF") | (Target::Aarch64, "Z") => Some(1),
-        (Target::X86_64, "ZF") | (Target::Aarch64, "C") => Some(2),
-        (Target::X86_64, "SF") | (Target::Aarch64, "V") => Some(3),
-        _ => None,
+// Flags by their names, with their numbers in the order of the variants of `Flags`.
+const FLAGS: &[(Target, &str, u8)] = &[
+    (Target::X86_64, "CF", 0),
+    (Target::X86_64, "OF", 1),
+    (Target::X86_64, "ZF", 2),
+    (Target::X86_64, "SF", 3),
+    (Target::Aarch64, "N", 0),
+    (Target::Aarch64, "Z", 1),
+    (Target::Aarch64, "C", 2),
+    (Target::Aarch64, "V", 3),
+];
+
+// Registers that have other names than a letter and their number.
+const REGISTERS: &[(Target, &str, u8)] = &[
+    (Target::X86_64, "rax", 0),
+    (Target::X86_64, "rcx", 1),
+    (Target::X86_64, "rdx", 2),
+    (Target::X86_64, "rbx", 3),
+    (Target::X86_64, "rsp", 4),
+    (Target::X86_64, "rbp", 5),
+    (Target::X86_64, "rsi", 6),
+    (Target::X86_64, "rdi", 7),
+    (Target::Aarch64, "sp", 31),
+];
+
+// The number that a name of a target has in a table.
+fn number_in(table: &[(Target, &str, u8)], target: Target, name: &str) -> Option<u8> {
+    for (of, text, number) in table {
+        if *of == target && *text == name {
+            return Some(*number);
+        }
     }
+    None
 }
 
 // the number of a register
 fn register_of(target: Target, name: &str) -> Option<u8> {
-    match target {
-        Target::X86_64 => x86_register_of(name),
-        Target::Aarch64 if name == "sp" => Some(31),
-        _ => below(32, name.strip_prefix('x')?),
-    }
-}
-
-fn x86_register_of(name: &str) -> Option<u8> {
-    match name {
-        "rax" => Some(0),
-        "rcx" => Some(1),
-        "rdx" => Some(2),
-        "rbx" => Some(3),
-        "rsp" => Some(4),
-        "rbp" => Some(5),
-        "rsi" => Some(6),
-        "rdi" => Some(7),
-        _ => below(16, name.strip_prefix('r')?),
+    match number_in(REGISTERS, target, name) {
+        Some(number) => Some(number),
+        None if target == Target::X86_64 => below(16, name.strip_prefix('r')?),
+        None => below(32, name.strip_prefix('x')?),
     }
 }
 

@@ -17,41 +17,37 @@ mod table;
 mod vector;
 mod x86_64;
 
-use aarch64::Aarch64;
 use any_code::run_any_code;
-use check::{Lines, check_file};
+use check::{Evidence, Lines, check_file};
 use lg_base::Target;
-use programs::check_programs;
-use riscv64::Riscv64;
 use std::io;
-use steps::check_steps;
-use x86_64::X86;
 
-// The targets, with their files of runs of a few steps.
-const STEPS: [(Target, &str); 3] = [
-    (Target::Aarch64, "step_aarch64.tsv"),
-    (Target::Riscv64, "step_riscv64.tsv"),
-    (Target::X86_64, "step_x86_64.tsv"),
+// The files of evidence, in the order in which they are compared, each with its target and what its lines are.
+const FILES: &[Evidence] = &[
+    ("encode_aarch64.tsv", Target::Aarch64, Lines::Spelled),
+    ("decode_none_aarch64.tsv", Target::Aarch64, Lines::Refused),
+    ("encode_riscv64.tsv", Target::Riscv64, Lines::Spelled),
+    ("decode_none_riscv64.tsv", Target::Riscv64, Lines::Refused),
+    ("encode_x86_64.tsv", Target::X86_64, Lines::Spelled),
+    ("decode_none_x86_64.tsv", Target::X86_64, Lines::Refused),
+    ("step_aarch64.tsv", Target::Aarch64, Lines::Steps),
+    ("prog_aarch64.tsv", Target::Aarch64, Lines::Programs),
+    ("step_riscv64.tsv", Target::Riscv64, Lines::Steps),
+    ("prog_riscv64.tsv", Target::Riscv64, Lines::Programs),
+    ("step_x86_64.tsv", Target::X86_64, Lines::Steps),
+    ("prog_x86_64.tsv", Target::X86_64, Lines::Programs),
+    ("wrong_encode_riscv64.tsv", Target::Riscv64, Lines::Spelled),
+    (
+        "wrong_decode_none_riscv64.tsv",
+        Target::Riscv64,
+        Lines::Refused,
+    ),
+    ("wrong_step_riscv64.tsv", Target::Riscv64, Lines::Steps),
 ];
 
-// Compares each file of evidence.
-fn check_all(rt: &HostRuntime) -> io::Result<()> {
-    check_file::<Aarch64>(rt, "encode_aarch64.tsv", Lines::Spelled)?;
-    check_file::<Aarch64>(rt, "decode_none_aarch64.tsv", Lines::Refused)?;
-    check_file::<Riscv64>(rt, "encode_riscv64.tsv", Lines::Spelled)?;
-    check_file::<Riscv64>(rt, "decode_none_riscv64.tsv", Lines::Refused)?;
-    check_file::<X86>(rt, "encode_x86_64.tsv", Lines::Spelled)?;
-    check_file::<X86>(rt, "decode_none_x86_64.tsv", Lines::Refused)?;
-    for (target, steps) in STEPS {
-        check_steps(rt, steps, target)?;
-        check_programs(rt, target)?;
-    }
-    check_file::<Riscv64>(rt, "wrong_encode_riscv64.tsv", Lines::Spelled)?;
-    check_file::<Riscv64>(rt, "wrong_decode_none_riscv64.tsv", Lines::Refused)?;
-    check_steps(rt, "wrong_step_riscv64.tsv", Target::Riscv64)
-}
-
 fn main(rt: HostRuntime) -> io::Result<()> {
-    check_all(&rt)?;
+    for evidence in FILES {
+        check_file(&rt, evidence)?;
+    }
     run_any_code(&rt)
 }

@@ -1,25 +1,26 @@
 // The table of RV64IM.
 
-use crate::table::{Found, Operands, Table, spoken};
+ghost use Rattle.std.specs.Prelude.{IfOk, IfSome};
+ghost use Rattle.lg_evidence.specs.Found.{StandsInFront};
+
+use crate::table::{Found, Operands, spoken};
 use lg_rv::{Instr, decode, encode};
 use std::alloc::{AllocError, Global};
 
-/// RV64IM.
-pub struct Riscv64;
-
-impl Table for Riscv64 {
-    fn find(alloc: Global, bytes: &[u8]) -> Result<Option<Found>, AllocError> {
-        match decode(bytes) {
-            None => Ok(None),
-            Some((instr, length)) => {
-                let operation = spoken(alloc, &instr.name(), operands(&instr))?;
-                let spelling = encode(&instr);
-                Ok(Some(Found {
-                    operation,
-                    length,
-                    spelling,
-                }))
-            }
+/// The instruction that the bytes begin with, if they begin with one.
+pub fn find(alloc: Global, bytes: &[u8]) -> Result<Option<Found>, AllocError>
+    ensures { IfOk result (λ answer. IfSome answer (StandsInFront bytes.now)) }
+{
+    match decode(bytes) {
+        None => Ok(None),
+        Some((instr, length)) => {
+            let operation = spoken(alloc, &instr.name(), operands(&instr))?;
+            let spelling = encode(&instr);
+            Ok(Some(Found {
+                operation,
+                length,
+                spelling,
+            }))
         }
     }
 }

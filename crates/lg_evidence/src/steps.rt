@@ -1,161 +1,115 @@
-// The check of a file of single steps.
+// What comes of a line on a run of few steps.
 
-use crate::case::{Case, Item, code_of, parse_case, parse_item};
-use crate::processor::{CODE, TRASH, out_of_memory, processor, run, sink};
-use lg_base::{CodeBytes, Flags, OutOfMemory, Target};
+use crate::case::{Case, Item, parse_case, parse_item};
+use crate::processor::{CODE, TRASH, run, set_code};
+use lg_base::{Flags, OutOfMemory, Target};
 use lg_cpu::{Cpu, CpuStep};
-use lg_io::MemorySink;
-use lg_tally::{Counts, Outcome};
+use lg_tally::Outcome;
 use std::alloc::{AllocError, Global};
-use std::rt::Files;
-use std::{fs, io};
 
-// the length of the argument part
-const ARGS_LEN: usize = 4_096;
-
-// the most bytes in front of the first program counter
-const MOST_FRONT: u64 = 4_096;
-
-// the address of the word that a run of x86-64 begins with on its stack
-const RETURN: u64 = 0x3fff_fff8;
-
-/// Checks a file of runs of few steps of a target, all on one processor, which is set up anew for each.
-pub fn check_steps(
-    rt: &(impl Files + Print + AllocGlobal),
-    file: &str,
-    target: Target,
-) -> io::Result<()> {
-    let text = fs::read_to_string(rt, file)?;
-    count_steps(rt, file, target, text.as_str())?.print(rt, file)
+// Where a run stands, but for its memory.
+#[derive(Clone, Copy)]
+struct State {
+    pc: u64,
+    steps: u64,
+    registers: [u64; 32],
+    flags: [Option<bool>; 4],
 }
 
-// The counts of the runs of these lines.
-fn count_steps(
-    rt: &(impl Print + AllocGlobal),
-    file: &str,
-    target: Target,
-    lines: &str,
-) -> io::Result<Counts> {
-    match processor(rt.alloc(), target, &[], &[0; ARGS_LEN]) {
-        Ok(mut cpu) => count_on(rt, file, target, lines, &mut cpu),
-        Err(OutOfMemory) => Err(out_of_memory()),
-    }
-}
-
-// The counts of the runs of these lines, one behind the other on a processor.
-fn count_on(
-    rt: &(impl Print + AllocGlobal),
-    file: &str,
-    target: Target,
-    lines: &str,
-    cpu: &mut Cpu,
-) -> io::Result<Counts> {
-    cpu.store(RETURN, 8, 0);
-    match sink(rt.alloc()) {
-        Ok(mut out) => count_runs(rt, file, target, lines, cpu, &mut out),
-        Err(OutOfMemory) => Err(out_of_memory()),
-    }
-}
-
-fn count_runs(
-    rt: &(impl Print + AllocGlobal),
-    file: &str,
-    target: Target,
-    lines: &str,
-    cpu: &mut Cpu,
-    out: &mut MemorySink,
-) -> io::Result<Counts> {
-    let mut counts = Counts::new();
-    for line in lines.lines() {
-        let outcome = line_outcome(rt.alloc(), target, cpu, out, line)?;
-        counts.take(rt, file, line, &outcome)?;
-    }
-    Ok(counts)
-}
-
-fn line_outcome(
-    alloc: Global,
-    target: Target,
-    cpu: &mut Cpu,
-    out: &mut MemorySink,
-    line: &str,
-) -> Result<Outcome, AllocError> {
-    match parse_case(line) {
-        Some(case) => case_outcome(alloc, target, cpu, out, &case),
-        None => Outcome::unread(alloc),
-    }
-}
-
-// How a run stands: what its last step came to, and how many instructions went.
+// What a run came to: what its last step answered, where it stands, and whether all is as wanted.
 #[derive(Clone, Copy)]
 struct Stands {
     answer: CpuStep,
-    steps: u64,
+    found: State,
+    is_as_wanted: bool,
 }
 
-// Sets up a run, and gives the first program counter, where the case is of the form.
+// What is done with a number in memory that an item names.
+#[derive(Clone, Copy)]
+enum Use {
+    Store,
+    Compare,
+    Clear,
+}
+
+/// What comes of a line on a run of few steps of a target, on a processor that is set up anew for it.
+pub fn step_outcome(
+    alloc: Global,
+    target: Target,
+    cpu: &mut Cpu,
+    line: &str,
+) -> Result<Outcome, OutOfMemory> {
+    let Some(case) = parse_case(line) else {
+        return Ok(Outcome::unread(alloc)?);
+    };
+    if !begin(alloc, target, cpu, &case)? {
+        return Ok(Outcome::unread(alloc)?);
+    }
+    let stands = go(alloc, target, cpu, &case)?;
+    Ok(told(alloc, &stands)?)
+}
+
+// Sets up a run, where the case is of the form.
 fn begin(
     alloc: Global,
     target: Target,
     cpu: &mut Cpu,
     case: &Case<'_>,
-) -> Result<Option<u64>, AllocError> {
-    let Some(start) = set_up(target, cpu, case.before) else {
-        return Ok(None);
-    };
-    if set_code(alloc, cpu, start, case.hex)? {
-        Ok(Some(start))
-    } else {
-        Ok(None)
+) -> Result<bool, AllocError> {
+    match set_up(target, cpu, case.before) {
+        Some(start) => {
+            cpu.set_pc(start);
+            set_code(alloc, cpu, start, case.hex)
+        }
+        None => Ok(false),
     }
 }
 
-// Runs a case from its first program counter on: how the run stands, and whether all is as wanted.
+// Runs a case that is set up, and sets the memory that it names to 0.
 fn go(
-    target: Target,
-    cpu: &mut Cpu,
-    out: &mut MemorySink,
-    case: &Case<'_>,
-    start: u64,
-) -> (Stands, Option<bool>) {
-    cpu.set_pc(start);
-    let before = Before {
-        registers: registers(cpu),
-        flags: flags(cpu),
-    };
-    let steps = cpu.steps();
-    let answer = run(cpu, out, case.steps);
-    let stands = Stands {
-        answer,
-        steps: cpu.steps().saturating_sub(steps),
-    };
-    let same = is_as_wanted(target, cpu, case, &before, stands);
-    clear(target, cpu, case.before);
-    clear(target, cpu, case.after);
-    (stands, same)
-}
-
-fn case_outcome(
     alloc: Global,
     target: Target,
     cpu: &mut Cpu,
-    out: &mut MemorySink,
     case: &Case<'_>,
-) -> Result<Outcome, AllocError> {
-    let Some(start) = begin(alloc, target, cpu, case)? else {
-        return Outcome::unread(alloc);
+) -> Result<Stands, OutOfMemory> {
+    let before = state_of(cpu, 0);
+    let answer = run(alloc, cpu, case.steps)?;
+    let found = state_of(cpu, before.steps);
+    let mut wanted = State {
+        pc: 0,
+        steps: 1,
+        ..before
     };
-    match go(target, cpu, out, case, start) {
-        (_, Some(true)) => Ok(Outcome::Agrees),
-        (stands, _) => differing(alloc, cpu, stands),
-    }
+    let is_memory = go_over(target, cpu, &mut wanted, case.after, Use::Compare);
+    let is_as_wanted = is_memory && name_of(answer) == case.answer && are_alike(&found, &wanted);
+    go_over(target, cpu, &mut wanted, case.before, Use::Clear);
+    go_over(target, cpu, &mut wanted, case.after, Use::Clear);
+    Ok(Stands {
+        answer,
+        found,
+        is_as_wanted,
+    })
 }
 
-// what a run begins with
-#[derive(Clone, Copy)]
-struct Before {
-    registers: [u64; 32],
-    flags: [Option<bool>; 4],
+fn are_alike(found: &State, wanted: &State) -> bool {
+    found.pc == wanted.pc
+        && found.steps == wanted.steps
+        && found.registers == wanted.registers
+        && found.flags == wanted.flags
+}
+
+// Where the processor stands, and how many steps it has taken behind so many.
+fn state_of(cpu: &Cpu, steps: u64) -> State {
+    let mut registers = [0; 32];
+    for number in 0..32u8 {
+        registers[number as usize] = cpu.register(number);
+    }
+    State {
+        pc: cpu.pc(),
+        steps: cpu.steps().saturating_sub(steps),
+        registers,
+        flags: flags(cpu),
+    }
 }
 
 // the flags at the start of a run: those of AArch64 are the low bits of the trash word
@@ -204,121 +158,73 @@ fn flags(cpu: &Cpu) -> [Option<bool>; 4] {
     }
 }
 
-// sets what IN names and gives the first program counter
+// Sets what IN names, and gives the first program counter, where IN is of the form: it names no count of steps.
 fn set_up(target: Target, cpu: &mut Cpu, items: &str) -> Option<u64> {
-    for number in 0..32 {
-        cpu.set_register(number, TRASH);
+    let mut state = State {
+        pc: CODE,
+        steps: 0,
+        registers: [TRASH; 32],
+        flags: first_flags(target),
+    };
+    let is_set = items == "-" || go_over(target, cpu, &mut state, items, Use::Store);
+    if !is_set || state.steps != 0 {
+        return None;
     }
-    if target == Target::Riscv64 {
-        cpu.set_register(0, 0);
-    }
-    let mut pc = CODE;
-    let mut flags = first_flags(target);
-    if items != "-" {
-        for text in items.split(' ') {
-            match parse_item(target, text)? {
-                Item::Pc(at) => pc = at,
-                Item::Steps(_) => return None,
-                Item::Register { number, value } if number < 32 => {
-                    cpu.set_register(number, value);
-                }
-                Item::Flag { number, value } if number < 4 => flags[number as usize] = value,
-                Item::Register { .. } | Item::Flag { .. } => return None,
-                Item::Bytes {
-                    width,
-                    address,
-                    value,
-                } => if !store(cpu, width, address, value) {
-                    return None;
-                },
-            }
-        }
-    }
-    set_flags(target, cpu, flags);
-    Some(pc)
-}
-
-// makes the code end with these bytes, of which the first stands at an address
-fn set_code(alloc: Global, cpu: &mut Cpu, at: u64, hex: &str) -> Result<bool, AllocError> {
-    if at < CODE || at - CODE > MOST_FRONT {
-        return Ok(false);
-    }
-    match code_of(alloc, (at - CODE) as usize, hex)? {
-        Some(bytes) if bytes.len() <= 0x1_0000 => {
-            cpu.set_code(CodeBytes::from_vec(bytes));
-            Ok(true)
-        }
-        _ => Ok(false),
-    }
-}
-
-fn registers(cpu: &Cpu) -> [u64; 32] {
-    let mut registers = [0; 32];
     for number in 0..32u8 {
-        registers[number as usize] = cpu.register(number);
+        cpu.set_register(number, state.registers[number as usize]);
     }
-    registers
+    set_flags(target, cpu, state.flags);
+    Some(state.pc)
 }
 
-fn store(cpu: &mut Cpu, width: u32, address: u64, value: u64) -> bool {
-    match width {
-        1 | 2 | 4 | 8 => cpu.store(address, width, value),
-        _ => false,
+// Puts what items name into a state, and uses the memory that they name: whether all are of the form, and all memory can be used so.
+fn go_over(target: Target, cpu: &mut Cpu, state: &mut State, items: &str, how: Use) -> bool {
+    let mut are_used = true;
+    for text in items.split(' ') {
+        if !is_used(target, cpu, state, text, how) {
+            are_used = false;
+        }
     }
+    are_used
 }
 
-fn load(cpu: &Cpu, width: u32, address: u64) -> Option<u64> {
-    match width {
-        1 | 2 | 4 | 8 => cpu.load(address, width),
-        _ => None,
-    }
-}
-
-// whether the run stands as OUT says, and the registers, the flags and the memory are as they were before but for what it names
-fn is_as_wanted(
-    target: Target,
-    cpu: &Cpu,
-    case: &Case<'_>,
-    before: &Before,
-    stands: Stands,
-) -> Option<bool> {
-    let mut wanted = *before;
-    let mut steps = 1;
-    let mut pc = 0;
-    let mut same = true;
-    for text in case.after.split(' ') {
-        match parse_item(target, text)? {
-            Item::Pc(at) => pc = at,
-            Item::Steps(count) => steps = count,
-            Item::Register { number, value } if number < 32 => {
-                wanted.registers[number as usize] = value;
-            }
-            Item::Flag { number, value } if number < 4 => wanted.flags[number as usize] = value,
-            Item::Register { .. } | Item::Flag { .. } => return None,
+fn is_used(target: Target, cpu: &mut Cpu, state: &mut State, text: &str, how: Use) -> bool {
+    match parse_item(target, text) {
+        Some(
             Item::Bytes {
                 width,
                 address,
                 value,
-            } => if load(cpu, width, address) != Some(value) {
-                same = false;
             },
-        }
+        ) => are_bytes_used(cpu, (width, address), value, how),
+        Some(item) => is_put(state, item),
+        None => false,
     }
-    Some(
-        same && name_of(stands.answer) == case.answer
-            && stands.steps == steps
-            && cpu.pc() == pc
-            && registers(cpu) == wanted.registers
-            && flags(cpu) == wanted.flags,
-    )
 }
 
-// sets the memory that these items name to 0
-fn clear(target: Target, cpu: &mut Cpu, items: &str) {
-    for text in items.split(' ') {
-        if let Some(Item::Bytes { width, address, .. }) = parse_item(target, text) {
-            store(cpu, width, address, 0);
+// Puts an item that is not in memory into a state, where it can be put there.
+fn is_put(state: &mut State, item: Item) -> bool {
+    match item {
+        Item::Pc(pc) => state.pc = pc,
+        Item::Steps(steps) => state.steps = steps,
+        Item::Register { number, value } if number < 32 => {
+            state.registers[number as usize] = value;
         }
+        Item::Flag { number, value } if number < 4 => state.flags[number as usize] = value,
+        _ => return false,
+    }
+    true
+}
+
+// Uses a number in memory, of a width at an address: whether it could be set, or is so.
+fn are_bytes_used(cpu: &mut Cpu, (width, address): (u32, u64), value: u64, how: Use) -> bool {
+    match width {
+        1 | 2 | 4 | 8 => match how {
+            Use::Store => cpu.store(address, width, value),
+            Use::Compare => cpu.load(address, width) == Some(value),
+            Use::Clear => cpu.store(address, width, 0),
+        },
+        _ => false,
     }
 }
 
@@ -332,17 +238,20 @@ pub fn name_of(answer: CpuStep) -> &'static str {
     }
 }
 
-fn differing(alloc: Global, cpu: &Cpu, stands: Stands) -> Result<Outcome, AllocError> {
+// What a run came to, in words where that is not as wanted.
+fn told(alloc: Global, stands: &Stands) -> Result<Outcome, AllocError> {
+    if stands.is_as_wanted {
+        return Ok(Outcome::Agrees);
+    }
     let mut text = String::new(alloc);
-    write_stands(&mut text, cpu, stands)?;
+    write_stands(&mut text, name_of(stands.answer), &stands.found)?;
     Ok(Outcome::Differs(text))
 }
 
-fn write_stands(text: &mut String, cpu: &Cpu, stands: Stands) -> Result<(), AllocError> {
-    let name = name_of(stands.answer);
-    write!(text, "{name} steps={} pc={:x}", stands.steps, cpu.pc())?;
-    for number in 0..32u8 {
-        let value = cpu.register(number);
+fn write_stands(text: &mut String, name: &str, found: &State) -> Result<(), AllocError> {
+    write!(text, "{name} steps={} pc={:x}", found.steps, found.pc)?;
+    for number in 0..32usize {
+        let value = found.registers[number];
         if value != TRASH {
             write!(text, " x{number}={value:x}")?;
         }

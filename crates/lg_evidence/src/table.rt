@@ -1,9 +1,10 @@
-// What a check asks of a processor's table.
+// What a check asks of the targets' tables.
 
 ghost use Rattle.std.specs.Prelude.{IfOk, IfSome};
 ghost use Rattle.lg_evidence.specs.Found.{StandsInFront};
 
-use lg_base::Piece;
+use crate::{aarch64, riscv64, x86_64};
+use lg_base::{Piece, Target};
 use std::alloc::{AllocError, Global};
 use std::str;
 
@@ -18,11 +19,15 @@ pub struct Found {
     pub spelling: Piece,
 }
 
-/// A processor's table.
-pub trait Table {
-    /// The instruction that the bytes begin with, if they begin with one.
-    fn find(alloc: Global, bytes: &[u8]) -> Result<Option<Found>, AllocError>
-        ensures { IfOk result (λ answer. IfSome answer (StandsInFront bytes.now)) };
+/// The instruction of a target that the bytes begin with, if they begin with one.
+pub fn find(alloc: Global, target: Target, bytes: &[u8]) -> Result<Option<Found>, AllocError>
+    ensures { IfOk result (λ answer. IfSome answer (StandsInFront bytes.now)) }
+{
+    match target {
+        Target::X86_64 => x86_64::find(alloc, bytes),
+        Target::Aarch64 => aarch64::find(alloc, bytes),
+        Target::Riscv64 => riscv64::find(alloc, bytes),
+    }
 }
 
 /// The operands of an instruction, at most four, from the front on.

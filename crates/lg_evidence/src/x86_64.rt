@@ -1,25 +1,26 @@
 // The table of x86-64.
 
-use crate::table::{Found, Operands, Table, spoken};
+ghost use Rattle.std.specs.Prelude.{IfOk, IfSome};
+ghost use Rattle.lg_evidence.specs.Found.{StandsInFront};
+
+use crate::table::{Found, Operands, spoken};
 use lg_x86::{Instr, decode, encode};
 use std::alloc::{AllocError, Global};
 
-/// x86-64.
-pub struct X86;
-
-impl Table for X86 {
-    fn find(alloc: Global, bytes: &[u8]) -> Result<Option<Found>, AllocError> {
-        match decode(bytes) {
-            None => Ok(None),
-            Some((instr, length)) => {
-                let operation = operation(alloc, &instr)?;
-                let spelling = encode(&instr);
-                Ok(Some(Found {
-                    operation,
-                    length,
-                    spelling,
-                }))
-            }
+/// The instruction that the bytes begin with, if they begin with one.
+pub fn find(alloc: Global, bytes: &[u8]) -> Result<Option<Found>, AllocError>
+    ensures { IfOk result (λ answer. IfSome answer (StandsInFront bytes.now)) }
+{
+    match decode(bytes) {
+        None => Ok(None),
+        Some((instr, length)) => {
+            let operation = operation(alloc, &instr)?;
+            let spelling = encode(&instr);
+            Ok(Some(Found {
+                operation,
+                length,
+                spelling,
+            }))
         }
     }
 }

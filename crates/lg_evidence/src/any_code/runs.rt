@@ -5,7 +5,8 @@ ghost use Rattle.std.specs.Prelude.{◌≤◌, length};
 use super::bytes::{MOST, any, changed};
 use super::seeds::seed;
 use super::tally::Tally;
-use lg_base::{ArgImage, CodeBytes, DataImage, OutOfMemory, Target};
+use crate::processor::{ARGS, CODE, processor, step, steps};
+use lg_base::{CodeBytes, OutOfMemory, Target};
 use lg_cpu::{Cpu, CpuStep};
 use lg_io::MemorySink;
 use lg_tally::{Random, count};
@@ -15,17 +16,12 @@ use std::alloc::Global;
 const RUNS: u32 = 10_000;
 
 // the most steps of a run
-const STEPS: u32 = 1000;
+const STEPS: u64 = 1000;
 
-// the first address of code, and of the data part, and the highest word of the stack
-const CODE: u64 = 0x1000_0000;
-
+// the first address of the data part, and the highest word of the stack
 const DATA: u64 = 0x2000_0000;
 
 const TOP: u64 = 0x3fff_fff8;
-
-// The argument part of the one word `-`.
-const ARGS: [u8; 18] = [16, 0, 0, 0x28, 0, 0, 0, 0, 0, 0, 0, 0, 0, 0, 0, 0, b'-', 0];
 
 /// What the runs on a target came to: how many came to what, the steps that they took, a sum that depends on where each stopped, and in
 /// how many an answer changed when it was asked for again.
@@ -83,27 +79,6 @@ fn set_operands(cpu: &mut Cpu, random: &mut Random) {
     }
 }
 
-// Takes one step, where the processor can count it.
-fn step(cpu: &mut Cpu, out: &mut MemorySink) -> CpuStep {
-    if cpu.steps() < u64::MAX {
-        cpu.step(out)
-    } else {
-        CpuStep::Went
-    }
-}
-
-// Takes the steps of a run, until it answers something else than that it goes on.
-#[inline(never)]
-fn run(cpu: &mut Cpu, out: &mut MemorySink) -> CpuStep {
-    for _ in 0..STEPS {
-        let answer = step(cpu, out);
-        if answer != CpuStep::Went {
-            return answer;
-        }
-    }
-    CpuStep::Went
-}
-
 // Whether ten more calls answer the same, at the same place.
 fn stays(cpu: &mut Cpu, out: &mut MemorySink, answer: CpuStep) -> bool {
     let (pc, steps) = (cpu.pc(), cpu.steps());
@@ -140,7 +115,7 @@ impl Outcome {
     fn go(&mut self, cpu: &mut Cpu, out: &mut MemorySink) {
         cpu.set_pc(CODE);
         let before = cpu.steps();
-        let answer = run(cpu, out);
+        let answer = steps(cpu, out, STEPS);
         self.tally.count(answer);
         self.steps = self.steps.wrapping_add(cpu.steps().wrapping_sub(before));
         self.sum = self.sum.wrapping_mul(31).wrapping_add(cpu.pc());
@@ -185,14 +160,6 @@ impl Outcome {
     }
 }
 
-// A processor of a target before its first step.
-fn processor_of(alloc: Global, target: Target) -> Result<Cpu, OutOfMemory> {
-    let code = CodeBytes::of(alloc, &[])?;
-    let image = DataImage::of(alloc, &[0; 64])?;
-    let args = ArgImage::of(alloc, &ARGS)?;
-    Cpu::new(alloc, target, &code, &image, &args, 0x5a5a_5a5a_5a5a_5a5a)
-}
-
 // Makes the runs of a target on its processor.
 fn run_on(alloc: Global, cpu: &mut Cpu, target: Target) -> Result<Outcome, OutOfMemory> {
     let start = Start::of(cpu);
@@ -205,6 +172,6 @@ fn run_on(alloc: Global, cpu: &mut Cpu, target: Target) -> Result<Outcome, OutOf
 
 /// Makes the runs of a target: over any bytes with operands in the registers, and over changed code from the start's registers.
 pub fn run_target(alloc: Global, target: Target) -> Result<Outcome, OutOfMemory> {
-    let mut cpu = processor_of(alloc, target)?;
+    let mut cpu = processor(alloc, target, 64, &ARGS)?;
     run_on(alloc, &mut cpu, target)
 }
