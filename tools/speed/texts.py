@@ -1,7 +1,7 @@
 #!/usr/bin/env python3
 """Prints a text to time `lightning` by: texts.py KIND [SIZE], where SIZE is a number of lines or, of the first three kinds, of bytes, which the text has or some less.
 
-The first three are for the preprocessor: their first line is refused behind it, so that nothing else is done with them. What `--mode list` writes of a text of `swaps`, which
+The first three are for the preprocessor: their first line is refused behind it, so that nothing else is done with them. What `--mode list` writes of `swaps`, which
 is much code of few instructions on RV64, is read back by `--mode back`. Not part of the gate.
 
     plain     instructions, in which no macro is named
