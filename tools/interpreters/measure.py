@@ -1,6 +1,6 @@
-"""Times the models of the processors beside the plain C interpreters of this folder, on the loops of five of lg_bench.
+"""Times the models of the processors beside the plain C interpreters of this folder, on the code of a text of `tools/speed/texts.py`, a loop without an end.
 
-Usage: python3 tools/interpreters/measure.py [RUNS], at the top of the repository, behind `rt run` in crates/lg_bench and, here,
+Usage: python3 tools/interpreters/measure.py LIGHTNING [RUNS], at the top of the repository, where LIGHTNING is the built program, behind
     for t in riscv64 aarch64 x86_64; do gcc -O2 -o /tmp/$t tools/interpreters/$t.c; done
 Prints the least time of interleaved runs, as instructions a second, and the ratio."""
 
@@ -9,32 +9,43 @@ import subprocess
 import sys
 
 STEPS = "20000000"
-MODEL = "crates/lg_bench/out/lg_bench"
-LOOPS = {
-    "riscv64": ("rv64", "9382120033035300b3c3630033b46300e39802fe"),
-    "aarch64": ("aarch64", "a5040091c600058be70006cae80006ebfcffff17"),
-    "x86_64": ("x86_64", "4983c0014d01c14d31ca4d39caebf1"),
-}
+TEXT, LISTING = "/tmp/short.tst", "/tmp/short.lst"
+TARGETS = ("riscv64", "aarch64", "x86_64")
+
+
+def output(command):
+    return subprocess.run(command, stdout=subprocess.PIPE, check=True).stdout
+
+
+def write_code(lightning, target):
+    """Writes the code of the text for a target, in hexadecimal digits."""
+    with open(LISTING, "wb") as file:
+        file.write(output([lightning, "--mode", "list", "--target", target, TEXT]))
+    with open(f"/tmp/{target}.hex", "w") as file:
+        file.write(output([lightning, "--mode", "back", LISTING]).hex())
 
 
 def seconds(command):
     before = resource.getrusage(resource.RUSAGE_CHILDREN).ru_utime
-    subprocess.run(command, stdout=subprocess.DEVNULL, check=True)
+    subprocess.run(command, stdout=subprocess.DEVNULL, stderr=subprocess.DEVNULL)
     return resource.getrusage(resource.RUSAGE_CHILDREN).ru_utime - before
 
 
 def main():
-    runs = int(sys.argv[1]) if len(sys.argv) > 1 else 12
+    lightning = sys.argv[1]
+    runs = int(sys.argv[2]) if len(sys.argv) > 2 else 12
+    with open(TEXT, "wb") as file:
+        file.write(output([sys.executable, "tools/speed/texts.py", "short"]))
+    for target in TARGETS:
+        write_code(lightning, target)
     least = {}
-    for target, (_, code) in LOOPS.items():
-        with open(f"/tmp/{target}.hex", "w") as file:
-            file.write(code)
     for _ in range(runs):
-        for target, (mode, _) in LOOPS.items():
-            for who, command in (("C", [f"/tmp/{target}", f"/tmp/{target}.hex", STEPS]), ("model", [MODEL, mode, STEPS])):
+        for target in TARGETS:
+            model = [lightning, "--target", target, "--steps", STEPS, TEXT]
+            for who, command in (("C", [f"/tmp/{target}", f"/tmp/{target}.hex", STEPS]), ("model", model)):
                 time = seconds(command)
                 least[target, who] = min(least.get((target, who), time), time)
-    for target in LOOPS:
+    for target in TARGETS:
         plain, model = least[target, "C"], least[target, "model"]
         million = int(STEPS) / 1e6
         print(f"{target}: C {million / plain:.0f}, model {million / model:.0f} million instructions a second, ratio {plain / model:.2f}")

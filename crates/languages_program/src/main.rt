@@ -8,6 +8,7 @@ mod expressions;
 mod run;
 mod stack;
 mod targets;
+mod trouble;
 
 use expressions::{list_expression, run_expressions};
 use stack::{print_faults, run_program};

@@ -17,16 +17,6 @@ const ANYTHING: u64 = 0x5A5A_5A5A_5A5A_5A5A;
 // The most steps. A text that goes on for ever is not waited for.
 const MOST_STEPS: u64 = 1_000_000;
 
-// Room for what a run prints: some numbers.
-const ROOM: usize = 256;
-
-/// What a run wrote, and its last step's answer: `Went` where the most steps were taken.
-#[derive(Drop)]
-pub struct Ran {
-    pub out: MemorySink,
-    pub end: CpuStep,
-}
-
 // The words of a run: a name, and the argument.
 fn words_of(alloc: Global, argument: &str) -> Result<Vec<String>, OutOfMemory>
     ensures { IfOk result (λ words. 0 < length words.items) }
@@ -66,21 +56,22 @@ fn processor_for(
     Cpu::new(alloc, code.target(), code.bytes(), image, args, ANYTHING)
 }
 
-/// Runs code with an argument. `last` is the processor of the last run of this code, and of this one behind it.
+/// Runs code with an argument: its last step's answer, `Went` where the most steps were taken. `last` is the processor of the last run of this code, and of this
+/// one behind it.
 pub fn run(
     alloc: Global,
     code: &Code,
     image: &DataImage,
     argument: &str,
     last: &mut Option<Cpu>,
-) -> Result<Ran, Stop>
+    out: &mut MemorySink,
+) -> Result<CpuStep, Stop>
     requires code { length code.now.bytes ≤ most_code }
     requires image { length image.now ≤ 0x1000000 }
 {
     let args = args_of(alloc, argument)?;
-    let mut out = MemorySink::new(alloc, ROOM, &[])?;
     let mut cpu = processor_for(alloc, code, image, &args, last.take())?;
-    let end = cpu.run(MOST_STEPS, &mut out);
+    let end = cpu.run(MOST_STEPS, out);
     *last = Some(cpu);
-    Ok(Ran { out, end })
+    Ok(end)
 }

@@ -1,26 +1,38 @@
 // The stack language: a text is run with some arguments, and of texts that stand apart by empty lines is printed what is wrong with each.
 
-use crate::targets::{print_stop, run_unit};
-use lg_node::check;
+ghost use Rattle.std.specs.Prelude.{◌≡◌, ◌≤◌, length, IfOk};
+ghost use Rattle.lg_asm.specs.Addresses.{AreInside};
+
+use crate::targets::run_made;
+use crate::trouble::{Trouble, print_trouble};
+use lg_node::{Unit, check};
 use lg_stack_language::compile;
+use std::alloc::Global;
 use std::io;
 
-/// Compiles a text, and runs its code on each target with each of the arguments, which have spaces between.
-pub fn run_program(rt: &HostRuntime, text: &str, arguments: &str) -> io::Result<()> {
-    match compile(rt.alloc(), text) {
-        Ok(unit) => run_unit(rt, &unit, arguments),
-        Err(fault) => println!(rt; "line {}: {}", fault.line, fault.error),
+// The unit of the program that a text is.
+fn unit_in(alloc: Global, text: &str) -> Result<Unit, Trouble>
+    ensures { IfOk result (λ u. AreInside u.nodes (length u.image)) }
+{
+    match compile(alloc, text) {
+        Ok(unit) => Ok(unit),
+        Err(fault) => Err(Trouble::Program(fault)),
     }
 }
 
-// Prints what is wrong with a text.
-fn print_fault(rt: &HostRuntime, text: &str) -> io::Result<()> {
-    match compile(rt.alloc(), text) {
-        Err(fault) => println!(rt; "  line {}: {}", fault.line, fault.error),
-        Ok(unit) => match check(rt.alloc(), &unit) {
-            Err(stop) => print_stop(rt, stop),
-            Ok(_) => println!(rt; "  none"),
+/// Compiles a text, and runs its code on each target with each of the arguments, which have spaces between.
+pub fn run_program(rt: &HostRuntime, text: &str, arguments: &str) -> io::Result<()> {
+    run_made(rt, unit_in(rt.alloc(), text), arguments)
+}
+
+// What is wrong with a text, if anything is.
+fn trouble_of(alloc: Global, text: &str) -> Option<Trouble> {
+    match unit_in(alloc, text) {
+        Ok(unit) => match check(alloc, &unit) {
+            Ok(_) => None,
+            Err(stop) => Some(Trouble::Stop(stop)),
         },
+        Err(trouble) => Some(trouble),
     }
 }
 
@@ -28,7 +40,10 @@ fn print_fault(rt: &HostRuntime, text: &str) -> io::Result<()> {
 pub fn print_faults(rt: &HostRuntime, texts: &str) -> io::Result<()> {
     println!(rt; "faults")?;
     for text in texts.split("\n\n") {
-        print_fault(rt, text)?;
+        match trouble_of(rt.alloc(), text) {
+            Some(trouble) => print_trouble(rt, &trouble)?,
+            None => println!(rt; "  none")?,
+        }
     }
     Ok(())
 }

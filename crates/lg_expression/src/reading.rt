@@ -3,7 +3,7 @@
 ghost use Rattle.std.specs.Prelude.{◌≡◌, ◌∷◌, [], ◌++◌, IfErr, IfOk};
 ghost use Rattle.lg_expression.specs.Grammar.{HasWideNumber, IsLarge, IsNone, Spells, closeness, comparison, operation_at};
 ghost use Rattle.lg_expression.specs.declared.reading.ReadError.TheVariants as error;
-ghost use Rattle.lg_expression.specs.Reading.{Fails, Gives, Goes, argument_from, behind_first, closed_from, digit_from, ended, first, first_step, longer, opened_from, operator_from, released, shown, step_before, steps_read, taken, taken_behind, whole};
+ghost use Rattle.lg_expression.specs.Reading.{Fails, Gives, Goes, argument_from, behind_first, closed_from, digit_from, ended, first, first_step, longer, opened_from, operator_from, read_on, released, shown, step_before, steps_read, taken, taken_behind, whole, whole_of};
 
 use crate::expression::Expression;
 use crate::step::Step;
@@ -267,10 +267,28 @@ impl Reader {
             Err(ReadError::NoExpression)
         }
     }
+
+    // The bytes of a text.
+    #[tactic(auto, unfolding(crate::specs::Reading::read_on))]
+    fn take_all(&mut self, text: &[u8]) -> Result<(), ReadError>
+        ensures { Goes result (shown self.new) (read_on (shown self.old) text.now) }
+    {
+        'bytes: for byte in text {
+            self.take(*byte)?;
+        }
+        Ok(())
+    }
+
+    // A whole text.
+    fn text(&mut self, text: &[u8]) -> Result<(), ReadError>
+        ensures { Goes result (shown self.new).steps (whole_of (read_on (shown self.old) text.now)) }
+    {
+        self.take_all(text)?;
+        self.finish()
+    }
 }
 
 // The steps that a text spells.
-#[tactic(auto, unfolding(crate::specs::Reading::read_on))]
 fn steps_of(alloc: Global, text: &[u8]) -> Result<Vec<Step>, ReadError>
     ensures ok { IfOk result (λ steps. steps_read text.now ≡ Ok steps.items) }
     ensures err { IfErr result (Fails (steps_read text.now)) }
@@ -280,12 +298,10 @@ fn steps_of(alloc: Global, text: &[u8]) -> Result<Vec<Step>, ReadError>
         waiting: Vec::new(alloc),
         next: Next::Operand,
     };
-    'bytes: for byte in text {
-        reader.take(*byte)?;
+    match reader.text(text) {
+        Ok(()) => Ok(reader.steps),
+        Err(error) => Err(error),
     }
-    reader.finish()?;
-    let Reader { steps, .. } = reader;
-    Ok(steps)
 }
 
 /// Reads an expression: numbers in decimal digits, the argument `x`, `+ - * /`, comparisons `< > =`, parentheses, and a minus sign before an

@@ -3,7 +3,7 @@
 use lg_op::BinaryOp;
 
 /// A step of working an expression out, on a stack of words of 64 bits.
-#[derive(Clone, Copy, PartialEq, Eq)]
+#[derive(Clone, Copy)]
 pub enum Step {
     /// A number goes onto the stack.
     Number(u64),

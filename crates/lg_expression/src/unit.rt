@@ -208,8 +208,10 @@ pub fn unit_of(alloc: Global, expression: &Expression) -> Result<Unit, OutOfMemo
     ensures image { IfOk result (λ u. u.image ≡ format) }
     ensures inside { IfOk result AreInside }
 {
-    let mut nodes = NodeList::new(alloc);
-    put_unit(&mut nodes, expression)?;
     let image = DataImage::of(alloc, b"%ld\n\0")?;
-    Ok(Unit { nodes, image })
+    let mut nodes = NodeList::new(alloc);
+    match put_unit(&mut nodes, expression) {
+        Ok(()) => Ok(Unit { nodes, image }),
+        Err(error) => Err(error),
+    }
 }

@@ -29,6 +29,18 @@ struct Variable<'a> {
     offset: u64,
 }
 
+// The operation that a word stands for.
+fn operation_of(word: &str) -> Option<BinaryOp> {
+    match word {
+        "+" => Some(BinaryOp::Add),
+        "-" => Some(BinaryOp::Sub),
+        "*" => Some(BinaryOp::Mul),
+        "<" => Some(BinaryOp::Lt),
+        "=" => Some(BinaryOp::Eq),
+        _ => None,
+    }
+}
+
 #[derive(Drop)]
 struct Compiler<'a> {
     emitter: Emitter,
@@ -40,14 +52,14 @@ struct Compiler<'a> {
 }
 
 impl<'a> Compiler<'a> {
-    fn new(alloc: Global) -> Result<Compiler<'a>, CompileError> {
-        Ok(Compiler {
-            emitter: Emitter::new(alloc)?,
+    fn new(alloc: Global) -> Compiler<'a> {
+        Compiler {
+            emitter: Emitter::new(alloc),
             functions: Vec::new(alloc),
             variables: Vec::new(alloc),
             blocks: Vec::new(alloc),
             is_open: false,
-        })
+        }
     }
 
     // The function of a name.
@@ -179,12 +191,10 @@ impl<'a> Compiler<'a> {
         if !self.is_open {
             return Err(CompileError::OutOfPlace);
         }
+        if let Some(op) = operation_of(word) {
+            return self.emitter.operation(op);
+        }
         match word {
-            "+" => self.emitter.operation(BinaryOp::Add),
-            "-" => self.emitter.operation(BinaryOp::Sub),
-            "*" => self.emitter.operation(BinaryOp::Mul),
-            "<" => self.emitter.operation(BinaryOp::Lt),
-            "=" => self.emitter.operation(BinaryOp::Eq),
             "print" => self.emitter.print(),
             "return" => self.emitter.give_back(),
             "if" => self.begin_if(),
@@ -268,15 +278,20 @@ impl<'a> Compiler<'a> {
 }
 
 // The unit of a text, where its nodes are made.
-fn unit_of(alloc: Global, emitter: Emitter) -> Result<Unit, OutOfMemory>
+fn unit_of(alloc: Global, emitter: Emitter) -> Result<Unit, Fault>
     ensures inside { IfOk result (λ u. AreInside u.nodes) }
     ensures image { IfOk result (λ u. u.image ≡ format) }
 {
-    let image = DataImage::of(alloc, b"%ld\n\0")?;
-    Ok(Unit {
-        nodes: emitter.into_nodes(),
-        image,
-    })
+    match DataImage::of(alloc, b"%ld\n\0") {
+        Ok(image) => Ok(Unit {
+            nodes: emitter.into_nodes(),
+            image,
+        }),
+        Err(OutOfMemory) => Err(Fault {
+            line: 0,
+            error: CompileError::OutOfMemory,
+        }),
+    }
 }
 
 /// Makes the unit of a text, or gives its first fault with the line. The entry calls the function `main` with the number that the second word of the run says. A
@@ -285,20 +300,12 @@ pub fn compile(alloc: Global, text: &str) -> Result<Unit, Fault>
     ensures inside { IfOk result (λ u. AreInside u.nodes) }
     ensures image { IfOk result (λ u. u.image ≡ format) }
 {
-    let mut compiler = match Compiler::new(alloc) {
-        Ok(compiler) => compiler,
-        Err(error) => return Err(Fault { line: 0, error }),
-    };
-    if let Err(error) = compiler.text(text) {
-        let line = compiler.emitter.line();
-        return Err(Fault { line, error });
-    }
-    let Compiler { emitter, .. } = compiler;
-    match unit_of(alloc, emitter) {
-        Ok(unit) => Ok(unit),
+    let mut compiler = Compiler::new(alloc);
+    match compiler.text(text) {
+        Ok(()) => unit_of(alloc, compiler.emitter),
         Err(error) => Err(Fault {
-            line: 0,
-            error: CompileError::from(error),
+            line: compiler.emitter.line(),
+            error,
         }),
     }
 }

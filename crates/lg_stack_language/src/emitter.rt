@@ -6,7 +6,7 @@ ghost use Rattle.lg_stack_language.specs.Units.{AreInside, node};
 
 use crate::fault::CompileError;
 use crate::writer::Writer;
-use lg_base::{HostName, OutOfMemory};
+use lg_base::HostName;
 use lg_node::{
     Addressing, BinaryOp, Condition, ControlOp, Label, LastOperand, Locals, Node, NodeList, Op,
     Operand, Operands, PlainOp, Reg, StoreType, ValueType,
@@ -26,6 +26,7 @@ const R1: Operand = Operand::Reg(Reg::R1);
 #[derive(Drop)]
 pub(crate) struct Emitter {
     writer: Writer,
+    // the label of the format by which values are printed, from the entry on
     format: Label,
     locals: Locals,
     // where the first value waits, by its offset from FP, and how many wait
@@ -35,19 +36,16 @@ pub(crate) struct Emitter {
 }
 
 impl Emitter {
-    /// No nodes; the label of the format by which values are printed stands at the first byte of the data part.
-    pub fn new(alloc: Global) -> Result<Emitter, OutOfMemory> {
-        let mut writer = Writer::new(alloc);
-        let format = writer.fresh()?;
-        let _ = writer.bind_format(format);
-        Ok(Emitter {
-            writer,
-            format,
+    /// No nodes.
+    pub fn new(alloc: Global) -> Emitter {
+        Emitter {
+            writer: Writer::new(alloc),
+            format: Label(0),
             locals: Locals::none(),
             first: 0,
             values: 0,
             line: 0,
-        })
+        }
     }
 
     /// The nodes.
@@ -207,6 +205,12 @@ impl Emitter {
         )
     }
 
+    // What the call gives back, which comes directly behind it.
+    fn result(&mut self) -> Result<(), CompileError> {
+        self.put(Op::Retval(ValueType::Long), &[R0])?;
+        self.put_value()
+    }
+
     /// Calls a function with so many of the topmost values, in whose places its result comes.
     pub fn call(&mut self, label: Label, arguments: u32) -> Result<(), CompileError> {
         let least = self
@@ -224,8 +228,7 @@ impl Emitter {
             Op::Control(ControlOp::Finish, LastOperand::Immediate),
             &[Operand::Label(label)],
         )?;
-        self.put(Op::Retval(ValueType::Long), &[R0])?;
-        self.put_value()
+        self.result()
     }
 
     /// Prints the topmost value and a line feed.
@@ -284,13 +287,18 @@ impl Emitter {
         self.put(Op::Plain(PlainOp::Epilog), &[])
     }
 
-    /// The function that a run enters: it calls another one with the number that the second word of the run says.
-    pub fn entry(&mut self, main: Label) -> Result<(), CompileError> {
-        self.begin()?;
+    // The label of the format by which values are printed stands at the first byte of the data part.
+    fn bind_format(&mut self) -> Result<(), CompileError> {
+        self.format = self.writer.fresh()?;
+        let _ = self.writer.bind_format(self.format);
+        Ok(())
+    }
+
+    // The number that the second word of the run says.
+    fn number_of_run(&mut self) -> Result<(), CompileError> {
         let _ = self.argument(0)?;
         let words = self.argument(1)?;
-        self.read(words)?;
-        self.take_value()?;
+        self.load(words)?;
         self.put(
             Op::Load(ValueType::Long, Addressing::RegisterImmediate),
             &[R0, R0, Operand::Number(8)],
@@ -301,8 +309,14 @@ impl Emitter {
             Op::Control(ControlOp::Finish, LastOperand::Immediate),
             &[Operand::Host(HostName::Atoi)],
         )?;
-        self.put(Op::Retval(ValueType::Long), &[R0])?;
-        self.put_value()?;
+        self.result()
+    }
+
+    /// The first function, which a run enters: it calls another one with the number that the second word of the run says.
+    pub fn entry(&mut self, main: Label) -> Result<(), CompileError> {
+        self.bind_format()?;
+        self.begin()?;
+        self.number_of_run()?;
         self.call(main, 1)?;
         self.end()
     }
