@@ -32,7 +32,7 @@ use lg_temp::{Choices, Staged};
 /// a label that is bound has the shortest form that reaches it, and code that leads ahead to one that is not the near form, or in a buffer of more than 1
 /// MiB the far one. Once the fixes of the buffer are patched, the code is whole instructions, and carries the node where the registers of `live_after` are
 /// live behind it: no step of it but one of a host function changes a register that is outside of the conventions. It has one store for each choice that
-/// saves a register, one more at stores, `pushargr` and `pushargi`, and at a `prolog` at most two more than `homes` and `saved` together.
+/// saves a register, one more at stores, `pushargr` and `pushargi`, and at a `prolog` at most two more than the homes with a register and `saved` together.
 #[must_use]
 pub fn select(
     node: &Node,
