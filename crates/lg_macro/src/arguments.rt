@@ -98,7 +98,7 @@ fn solid_len(pieces: &Pieces) -> usize
     n
 }
 
-// Pieces without the white space at their ends.
+/// Pieces without the white space at their ends.
 pub fn stripped(alloc: Global, pieces: &Pieces) -> Result<Pieces, OutOfMemory>
     ensures { IfOk result (λ r. r ≡ stripped pieces.now) }
 {

@@ -98,7 +98,7 @@ fn to_close(pieces: &Pieces, from: usize) -> Option<usize>
     None
 }
 
-// The text of pieces that are one word.
+/// The text of pieces that are one word; None of others.
 pub fn one_word(alloc: Global, pieces: &Pieces) -> Result<Option<PlainText>, OutOfMemory>
     ensures { IfOk result (λ r. r ≡ one_word pieces.now) }
 {
@@ -186,7 +186,7 @@ fn finished(name: PlainText, arity: Option<usize>, size: usize, body: Body) -> O
     }
 }
 
-// The pieces from a place on, without the white space at their ends.
+/// The pieces from a place on, at most their number, without the white space at their ends.
 pub fn stripped_from(alloc: Global, pieces: &Pieces, from: usize) -> Result<Pieces, OutOfMemory>
     requires { from ≤ length pieces.now }
     ensures { IfOk result (λ r. r ≡ stripped (drop from pieces.now)) }
