@@ -167,7 +167,7 @@ fn set_up(target: Target, cpu: &mut Cpu, items: &str) -> Option<u64> {
         flags: first_flags(target),
     };
     let is_set = items == "-" || go_over(target, cpu, &mut state, items, Use::Store);
-    if !is_set || state.steps != 0 {
+    if !is_set {
         return None;
     }
     for number in 0..32u8 {
@@ -188,6 +188,7 @@ fn go_over(target: Target, cpu: &mut Cpu, state: &mut State, items: &str, how: U
     are_used
 }
 
+// The same of one item. A count of steps may stand in OUT alone.
 fn is_used(target: Target, cpu: &mut Cpu, state: &mut State, text: &str, how: Use) -> bool {
     match parse_item(target, text) {
         Some(
@@ -197,6 +198,7 @@ fn is_used(target: Target, cpu: &mut Cpu, state: &mut State, text: &str, how: Us
                 value,
             },
         ) => are_bytes_used(cpu, (width, address), value, how),
+        Some(Item::Steps(_)) if matches!(how, Use::Store) => false,
         Some(item) => is_put(state, item),
         None => false,
     }
