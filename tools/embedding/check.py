@@ -1,9 +1,10 @@
 #!/usr/bin/env python3
-"""Whether docs/EMBEDDING.md holds: the commands and the program of its first half make a crate that compiles and prints what the page says, and the pieces of code
-of its second half stand in the crates that they are of.
+"""Whether docs/EMBEDDING.md holds: the commands and the programs of its first half make crates that compile and print what the page says, and the pieces of code
+of its second half are in the crates that they are of.
 
-A block ```sh has the commands, ```rust demo the program, ```out demo what it prints; ```rust of PATH a piece of that file, without its margin, and ```text the text that
-crates/languages_program runs. The crate is made in a copy of crates/ and crates.txt, in a folder of its own, and run by `rt try`. With --pieces only the pieces are compared.
+A block ```sh has the commands that make the crate `demo`, ```rust NAME the program of a crate NAME, ```out NAME what it prints; ```rust of PATH a piece of that file,
+without its margin, and ```text the text that crates/languages_program runs. The crates are made in a copy of crates/ and crates.txt, in a folder of its own, and run by
+`rt try`. With --pieces only the pieces are compared.
 """
 import pathlib
 import re
@@ -46,16 +47,18 @@ if one("text") != (root / "crates" / "languages_program" / "data" / "program.txt
 if "--pieces" not in sys.argv:
     with tempfile.TemporaryDirectory() as folder:
         copy = pathlib.Path(folder)
-        shutil.copytree(root / "crates", copy / "crates", ignore=shutil.ignore_patterns("out", "demo"))
-        listed = [l for l in (root / "crates.txt").read_text().splitlines(True) if not l.startswith("demo:")]
+        names = [head.removeprefix("out ") for head, _ in blocks if head.startswith("out ")]
+        shutil.copytree(root / "crates", copy / "crates", ignore=shutil.ignore_patterns("out", *names))
+        listed = [l for l in (root / "crates.txt").read_text().splitlines(True) if l.split(":")[0] not in names]
         (copy / "crates.txt").write_text("".join(listed))
-        subprocess.run(["sh", "-e", "-c", one("sh")], cwd=copy, check=True, stdout=subprocess.DEVNULL)
-        demo = copy / "crates" / "demo"
-        (demo / "src" / "main.rt").write_text(one("rust demo"))
-        ran = subprocess.run(["rt", "try", "--seconds", "600"], cwd=demo, capture_output=True, text=True)
-        if ran.returncode != 0 or ran.stdout != one("out demo"):
-            wrong += 1
-            print(ran.stdout, ran.stderr, sep="")
+        for name in names:
+            subprocess.run(["sh", "-e", "-c", re.sub(r"\bdemo\b", name, one("sh"))], cwd=copy, check=True, stdout=subprocess.DEVNULL)
+            crate = copy / "crates" / name
+            (crate / "src" / "main.rt").write_text(one(f"rust {name}"))
+            ran = subprocess.run(["rt", "try", "--seconds", "600"], cwd=crate, capture_output=True, text=True)
+            if ran.returncode != 0 or ran.stdout != one(f"out {name}"):
+                wrong += 1
+                print(ran.stdout, ran.stderr, sep="")
 
 print(f"wrong={wrong}")
 sys.exit(1 if wrong else 0)

@@ -1,10 +1,12 @@
 #!/usr/bin/env python3
 """Builds a program of this tree optimised and unproved, to measure a change before it is proved: unproved.py CRATE OUT.
 
-`rt try` makes one LLVM module of a program, with a check for each clause. This script keeps that module, takes the checks and the fills of fresh memory out of it, gives
-functions the hints to inline that their sources have, and compiles it by the kit's clang at -O3 to OUT/CRATE; OUT/module.ll stays. Some three minutes. The program counts some
-10 of a hundred instructions more than the proved one (`valgrind --tool=callgrind`). What it does where a clause does not hold is anyone's guess. Not part of the gate.
+`rt try` makes one LLVM module of a program, with a check for each clause. This script takes the checks, the traps that they end in and the fills of fresh memory out of
+that module, gives functions the hints to inline that their sources have, and compiles it by the kit's clang at -O3 to OUT/CRATE; OUT/module.ll stays. Some three minutes.
+The program counts within 2 of a hundred instructions of the proved one (`valgrind --tool=callgrind`). Where a clause does not hold its behaviour is undefined. Not part
+of the gate.
 """
+import collections
 import os
 import pathlib
 import re
@@ -15,7 +17,7 @@ import sys
 TREE = pathlib.Path(__file__).resolve().parents[2]
 FLAGS = ["--target=x86_64-unknown-linux-gnu", "--no-default-config", "-Wno-override-module"]
 FAST = ["-march=x86-64-v2", "-ffunction-sections", "-fdata-sections", "-no-canonical-prefixes", "-fintegrated-cc1"]
-NOISE = re.compile(r'^  call void @(llvm\.memset\.p0\.i64\(ptr %r\d+, i8 -86,|"rattle-llvm-checks::)')
+NOISE = re.compile(r'^  call void @(llvm\.memset\.p0\.i64\(ptr %r\d+, i8 -86,|llvm\.trap\(\)|"rattle-llvm-checks::)')
 HINT = re.compile(r"#\[(inline(?:\((?:always|never)\))?|cold)\]\s*(?:#\[[^\n]*\]\s*)*(?:pub(?:\([a-z]+\))?\s+)?(?:const\s+)?(?:unsafe\s+)?fn\s+(\w+)")
 WORDS = {"inline(always)": "alwaysinline", "inline": "inlinehint", "inline(never)": "noinline", "cold": "cold"}
 
@@ -58,14 +60,20 @@ def copied(out):
 
 
 def hints_of(crates):
-    """Returns the hints of functions, by crate, first module and name."""
-    hints = {}
+    """Returns the hints of functions by crate, first module and name, and by crate and name where the crate has one function of the name: an `impl` may be in another
+    module than its type."""
+    hints, alone = {}, {}
     for crate in crates:
+        texts = {source.relative_to(crate / "src").parts[0].removesuffix(".rt"): "" for source in (crate / "src").rglob("*.rt")}
         for source in sorted((crate / "src").rglob("*.rt")):
-            module = source.relative_to(crate / "src").parts[0].removesuffix(".rt")
-            for found in HINT.finditer(source.read_text()):
+            texts[source.relative_to(crate / "src").parts[0].removesuffix(".rt")] += source.read_text()
+        names = collections.Counter(re.findall(r"\bfn\s+(\w+)", "".join(texts.values())))
+        for module, text in texts.items():
+            for found in HINT.finditer(text):
                 hints[crate.name, "" if module == "lib" else module, found[2]] = WORDS[found[1]]
-    return hints
+                if names[found[2]] == 1:
+                    alone[crate.name, "", found[2]] = WORDS[found[1]]
+    return alone | hints
 
 
 def stripped(line, hints):

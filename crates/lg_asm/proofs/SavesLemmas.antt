@@ -54,10 +54,10 @@ unfolding saves_in
 none nodes sets = refl
 
 -- what is live at the return of a call is saved: the nodes of the code make the same calls as those by which frames save
-pub saves-live : (c : Code) (nodes : List Node) (sets : LiveSets) → c.saved ≡ frame_saves nodes sets
+pub saves-live : (c : Code) (nodes : List Node) (sets : LiveSets) → c.saved ≡ frame_saves nodes sets → c.first ≡ 3
     → ((i : ℕ) (m : Node) → slice_get c.nodes.nodes i ≡ Some m → is_call m.op ≡ true → (n : Node) × (slice_get nodes i ≡ Some n) × (is_call n.op ≡ true))
     → IsLiveness c (live_at sets.before) (live_at sets.behind) → SavesLive c (λ f. live_at sets.before f.back)
-saves-live c nodes sets saved calls live f i m back here is v lt l =
+saves-live c nodes sets saved first calls live f i m back here is v lt l =
     let n = calls i m here is in
     let behind : live_at sets.behind i (v + 3) ≡ true =
     sym (live.calls i m here is (v + 3)) ∙ ap (λ j. live_at sets.before j (v + 3)) (sym back) ∙ l in
@@ -65,7 +65,7 @@ saves-live c nodes sets saved calls live f i m back here is v lt l =
     let by : saves_by (slice_get nodes i) (set_behind sets i) ≡ saves_for (set_behind sets i) =
     ap (λ o. saves_by o (set_behind sets i)) n.1 ∙ ap (λ b. if b then saves_for (set_behind sets i) else 0) n.2 in
     let all = within nodes sets i (length nodes) (slice_get_within nodes i n.0 n.1) in
-    omega (arith, own, by, all, saved)
+    (omega (arith, own, by, all, saved), omega (arith, lt, first))
 
 -- ---- no more
 few-for : (v2 v1 v0 : Bool) (k : ℕ) → (k ≤ 2 → v2 ≡ false) → (k ≤ 1 → v1 ≡ false) → (k ≤ 0 → v0 ≡ false)

@@ -11,11 +11,12 @@ use Rattle.lg_base.specs.declared.refusal.Stop.{Stop}
 use Rattle.lg_base.specs.declared.refusal.Stop.TheVariants as stop
 use Rattle.lg_base.specs.declared.target.Target.{Target}
 use Rattle.lg_carry.specs.Agreement.{Agrees}
+use Rattle.lg_carry.specs.Entries.{entry_at}
 use Rattle.lg_carry.specs.FinalNodes.{Code}
 use Rattle.lg_carry.specs.Stands.{Stands}
 use Rattle.lg_sel.specs.Targets.{processor_of}
 use Rattle.lg_cpu.specs.Laws.{AreBytes}
-use Rattle.lg_cpu.specs.Targets.{run_from}
+use Rattle.lg_cpu.specs.Targets.{run_from, start_of}
 use Rattle.lg_live.specs.Liveness.{LiveSets, AreLive}
 use Rattle.lg_meaning.specs.Means as mean
 use Rattle.lg_meaning.specs.Addresses.{AreAddresses}
@@ -117,7 +118,8 @@ abbrev pub StartStands : Type 0
 StartStands =
     (target : Target) (c : Code) (code image args : List ℕ) (trash : ℕ) (live : Frame → ℕ → Bool) (S : ℕ → Bool) → MayStart image args trash
     → IsShapeOf c.nodes c.shape
-    → c.place 0 ≡ code_base → Stands (processor_of target code trash) c live (start_state image args) [] (run_from target image args trash) S
+    → c.place 0 ≡ code_base → entry_at c.nodes 0 ≡ c.entry → (start_of target image args trash).registers ≡ c.outer
+    → Stands (processor_of target code trash) c live (start_state image args) [] (run_from target image args trash) S
 
 -- behind each `.align` of the text the code stands at a multiple of its number
 abbrev pub AlignsStand : Type 0

@@ -1,11 +1,14 @@
 // How many of V0, V1 and V2 the frames of a text save.
 
 ghost use Rattle.std.specs.Prelude.{◌≡◌, ◌<◌, ◌≤◌, max, length, Some};
-ghost use Rattle.lg_asm.specs.Lowered.{saves_for, saves_by, frame_saves};
+ghost use Rattle.lg_asm.specs.Lowered.{saves_for, saves_by, saves_for_function, frame_saves};
+ghost use Rattle.lg_carry.specs.Entries.{is_align, is_jump, entry_at};
+ghost use Rattle.lg_meaning.specs.Steps.{function_here, node_of_label, operand_at};
 
+use lg_carry::memory::operands::operand;
 use lg_live::{Live, RegSet};
-use lg_node::NodeList;
-use lg_op::{ControlOp, Node, Op, Reg};
+use lg_node::{NodeList, Place, Shape};
+use lg_op::{ControlOp, LastOperand, Node, Op, Operand, PlainOp, Reg};
 
 // Up to the last one that is live.
 fn saves_for(live: RegSet) -> u32
@@ -52,4 +55,68 @@ pub(crate) fn frame_saves(nodes: &NodeList, live: &Live) -> u32
         saves = larger(saves, saves_by(&nodes.node(index), live.after(index)));
     }
     saves
+}
+
+// The node of the label to which a `jmpi` leads.
+fn target_of(nodes: &NodeList, node: &Node) -> u32
+    ensures { result ≡ node_of_label nodes.now.places (operand_at node.now 0) }
+{
+    nodes.what_holds();
+    let Operand::Label(label) = operand(node, 0) else {
+        return 0;
+    };
+    if label.0 >= nodes.labels() {
+        return 0;
+    }
+    match nodes.place(label) {
+        Some(Place::Node(index)) => index,
+        _ => 0,
+    }
+}
+
+// Whether an operation is `.align`.
+fn is_align(op: Op) -> bool
+    ensures { result ≡ is_align op }
+{
+    matches!(op, Op::Plain(PlainOp::Align))
+}
+
+// Whether it is a `jmpi`.
+fn is_jump(op: Op) -> bool
+    ensures { result ≡ is_jump op }
+{
+    matches!(op, Op::Control(ControlOp::Jmp, LastOperand::Immediate))
+}
+
+/// The first node of the function with which a run begins: the first function, or that to which a `jmpi` before every function leads.
+pub(crate) fn entry_of(nodes: &NodeList) -> u32
+    ensures { result ≡ entry_at nodes.now 0 }
+{
+    nodes.what_holds();
+    'nodes: for index in 0..nodes.len() {
+        let node = nodes.node(index);
+        if is_jump(node.op) {
+            return target_of(nodes, &node);
+        }
+        if !is_align(node.op) {
+            return index;
+        }
+    }
+    nodes.len()
+}
+
+/// How many of V0, V1 and V2 the frames of the function save in which a node stands: so many, and all three where a run begins with it.
+pub(crate) fn function_saves(shape: &Shape, index: u32, entry: u32, saved: u32) -> u32
+    ensures { result ≡ saves_for_function entry saved (function_here shape.now.functions index) }
+{
+    match shape.function_of(index) {
+        Some(function) => {
+            if shape.entry(function) == entry {
+                3
+            } else {
+                saved
+            }
+        }
+        None => saved,
+    }
 }

@@ -66,6 +66,24 @@ number_at-lt m a (suc w) h = let rest : number_at m (a + 1) w < 256 ^ w = number
 pub number_at-room : (m : ℕ → ℕ) (a w : ℕ) → ((j : ℕ) → m j < 256) → w ≤ 7 → number_at m a w < 256 ^ 7
 number_at-room m a w h k = let p : number_at m a w < 256 ^ w = number_at-lt m a w h in let q : 256 ^ w ≤ 256 ^ 7 = pow-le-pow_right {n = 256} (omega arith) k in omega (arith, p, q)
 
+-- four bytes make half a word
+pub number_at-half : (m : ℕ → ℕ) (a w : ℕ) → ((j : ℕ) → m j < 256) → w ≤ 4 → number_at m a w < 2 ^ 32
+number_at-half m a w h k = let p : number_at m a w < 256 ^ w = number_at-lt m a w h in let q : 256 ^ w ≤ 256 ^ 4 = pow-le-pow_right {n = 256} (omega arith) k in omega (arith, p, q)
+
+-- eight bytes are two halves
+pub number_at-halves : (m : ℕ → ℕ) (a b : ℕ) → b ≡ a + 4 → number_at m a 8 ≡ number_at m a 4 + number_at m b 4 * 0x100000000
+number_at-halves m a b e =
+    let s0 = number_at-step m a 8 (a + 1) 7 (omega arith) (omega arith) in
+    let s1 = number_at-step m (a + 1) 7 (a + 2) 6 (omega arith) (omega arith) in
+    let s2 = number_at-step m (a + 2) 6 (a + 3) 5 (omega arith) (omega arith) in
+    let s3 = number_at-step m (a + 3) 5 b 4 (omega (arith, e)) (omega arith) in
+    let t0 = number_at-step m a 4 (a + 1) 3 (omega arith) (omega arith) in
+    let t1 = number_at-step m (a + 1) 3 (a + 2) 2 (omega arith) (omega arith) in
+    let t2 = number_at-step m (a + 2) 2 (a + 3) 1 (omega arith) (omega arith) in
+    let t3 = number_at-step m (a + 3) 1 b 0 (omega (arith, e)) (omega arith) in
+    let t4 = number_at-none m b 0 (omega arith) in
+    omega (arith, s0, s1, s2, s3, t0, t1, t2, t3, t4)
+
 pub written-none : (m : ℕ → ℕ) (a n v : ℕ) → n ≡ 0 → written m a n v ≡ m
 unfolding written
 written-none m a n v e = rw e refl

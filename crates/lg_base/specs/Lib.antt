@@ -4,6 +4,7 @@ pub mod Faults
 pub mod Fields
 pub mod Flags
 pub mod Fronts
+pub mod Held
 pub mod HostNames
 pub mod Immediates
 pub mod Layout

@@ -32,3 +32,4 @@ pub use piece::Piece;
 pub use refusal::{OutOfMemory, Refusal, RefusalKind, Stop};
 pub use space::Space;
 pub use target::Target;
+pub use wide::{div_wide, div_wide_u, mul_high, mul_high_u, sign_part, swap_bytes, zero_part};

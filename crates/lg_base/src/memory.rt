@@ -1,9 +1,14 @@
 // The memory of a run.
 
-ghost use Rattle.std.specs.Prelude.{◌≡◌, ℕ, ◌+◌, ◌-◌, ◌^◌, ◌<◌, ◌≤◌, ◌⊎◌, ◌↔◌, length, slice_index, true, false, IfOk, IsSome, IsTrue, if◌then◌else◌};
+ghost use Rattle.std.specs.Prelude.{◌≡◌, ℕ, ◌+◌, ◌-◌, ◌^◌, ◌<◌, ◌≤◌, ◌⊎◌, ◌↔◌, List, length, slice_index, vec_capacity, true, false, IfOk, IsSome, IsTrue, if◌then◌else◌};
 ghost use Rattle.lg_base.specs.Spaces.{number_at, written, loaded, mapped, stored};
 ghost use Rattle.lg_base.specs.Parts.{byte_at, lies_in, LiesInOnePart, IsSized, IsZeroed};
 
+mod heap;
+mod stack;
+
+use self::heap::Heap;
+use self::stack::Stack;
 use crate::layout::DATA_BASE;
 use crate::refusal::OutOfMemory;
 use crate::space::Space;
@@ -16,14 +21,18 @@ const HEAP: u64 = 0x3000_0000;
 
 const STACK: u64 = 0x3FF0_0000;
 
+const HEAP_SIZE: u64 = 0x40_0000;
+
+const STACK_SIZE: u64 = 0x10_0000;
+
 /// The memory of a run: the data part, the argument part, 4 MiB of heap and 1 MiB of stack, at the
-/// addresses 0x20000000, 0x28000000, 0x30000000 and 0x3FF00000.
+/// addresses 0x20000000, 0x28000000, 0x30000000 and 0x3FF00000. Heap and stack hold only what was stored there.
 #[derive(Drop)]
 pub struct Memory {
     data: Vec<u8>,
     args: Vec<u8>,
-    heap: Vec<u8>,
-    stack: Vec<u8>,
+    heap: Heap,
+    stack: Stack,
 }
 
 impl Model for Memory {
@@ -31,9 +40,9 @@ impl Model for Memory {
 
     ghost Value = { Parts };
 
-    ghost view = { λ m. record { data_part = m.data.items; args_part = m.args.items; heap_part = m.heap.items; stack_part = m.stack.items } };
+    ghost view = { λ m. record { data_part = m.data.items; args_part = m.args.items; heap_part = m.heap; stack_part = m.stack } };
 
-    ghost invariant = { λ m. IsSized record { data_part = m.data.items; args_part = m.args.items; heap_part = m.heap.items; stack_part = m.stack.items } };
+    ghost invariant = { λ m. IsSized record { data_part = m.data.items; args_part = m.args.items; heap_part = m.heap; stack_part = m.stack } };
 }
 
 // So many zero bytes.
@@ -44,7 +53,8 @@ fn zeros(alloc: Global, len: usize) -> Result<Vec<u8>, OutOfMemory>
     Ok(vec![in alloc; 0u8; len]?)
 }
 
-// Whether `width` bytes from an address on lie in the part that begins at `base`.
+// Returns whether `width` bytes from an address on lie in the part that begins at `base`.
+#[inline(always)]
 fn lies_in(bytes: &[u8], base: u64, address: u64, width: u32) -> bool
     requires { base + length bytes.now < 2 ^ 64 }
     ensures { result ≡ lies_in base bytes.now address width }
@@ -54,11 +64,31 @@ fn lies_in(bytes: &[u8], base: u64, address: u64, width: u32) -> bool
         && address - base <= bytes.len() as u64 - u64::from(width)
 }
 
-// The number in `width` bytes from `at` on, the lowest byte first.
-fn number_in(bytes: &[u8], at: usize, width: u32) -> u64
+// Returns the same for a part of a fixed size, by one comparison: below the base the difference wraps, and is greater than any size.
+#[inline(always)]
+fn lies_in_fixed(size: u64, base: u64, address: u64, width: u32) -> bool
+    requires width { width ≤ size }
+    requires end { base + size < 2 ^ 62 }
+    ensures { (bytes : List ℕ) → length bytes ≡ size → result ≡ lies_in base bytes address width }
+{
+    address.wrapping_sub(base) <= size - u64::from(width)
+}
+
+// Returns the byte at a place, or 0 past the end.
+#[inline(always)]
+fn byte_or_zero(bytes: &[u8], at: usize) -> u8
+    ensures { result ≡ slice_index bytes.now at }
+{
+    if at < bytes.len() { bytes[at] } else { 0 }
+}
+
+// Returns the number in `width` bytes from `at` on, the lowest byte first.
+#[inline(always)]
+fn number_of(bytes: &[u8], at: usize, width: u32) -> u64
     requires inside { at + width ≤ length bytes.now }
     requires width { width ≤ 8 }
-    ensures { result ≡ number_at (slice_index bytes.now) at width }
+    ensures value { result ≡ number_at (slice_index bytes.now) at width }
+    ensures small { width ≤ 4 → result < 2 ^ 32 }
 {
     let mut number = 0u64;
     let mut left = width as usize;
@@ -69,8 +99,42 @@ fn number_in(bytes: &[u8], at: usize, width: u32) -> u64
     number
 }
 
+// Returns the number in `width` bytes from `at` on, by a constant width, so that the compiler reads it by one load. It joins the bytes of
+// four, and then two such halves, but not eight at once.
+#[inline(always)]
+fn number_in(bytes: &[u8], at: usize, width: u32) -> u64
+    requires inside { at + width ≤ length bytes.now }
+    requires width { (width ≡ 1) ⊎ (width ≡ 2) ⊎ (width ≡ 4) ⊎ (width ≡ 8) }
+    ensures { result ≡ number_at (slice_index bytes.now) at width }
+{
+    match width {
+        8 => number_of(bytes, at, 4) + number_of(bytes, at + 4, 4) * 0x1_0000_0000,
+        4 => number_of(bytes, at, 4),
+        2 => number_of(bytes, at, 2),
+        _ => number_of(bytes, at, 1),
+    }
+}
+
+// Returns the number in `width` bytes from `at` on, the lowest byte first, where those past the end are 0.
+#[cold]
+#[inline(never)]
+fn number_past(bytes: &[u8], at: usize, width: u32) -> u64
+    requires inside { at + width < 2 ^ 62 }
+    requires width { width ≤ 8 }
+    ensures { result ≡ number_at (slice_index bytes.now) at width }
+{
+    let mut number = 0u64;
+    let mut left = width as usize;
+    while left > 0 {
+        left -= 1;
+        number = number * 256 + u64::from(byte_or_zero(bytes, at + left));
+    }
+    number
+}
+
 // Writes the low bytes of a number from `at` on, the lowest byte first.
-fn write_number(bytes: &mut [u8], at: usize, width: u32, value: u64)
+#[inline(always)]
+fn write_number_of(bytes: &mut [u8], at: usize, width: u32, value: u64)
     requires { at + width ≤ length bytes.old }
     ensures { slice_index bytes.new ≡ written (slice_index bytes.old) at width value }
 {
@@ -78,6 +142,21 @@ fn write_number(bytes: &mut [u8], at: usize, width: u32, value: u64)
     for i in 0..width as usize {
         bytes[at + i] = (rest % 256) as u8;
         rest /= 256;
+    }
+}
+
+// Writes the low bytes of a number from `at` on, by a constant width, so that the compiler writes it by one store.
+#[inline(always)]
+fn write_number(bytes: &mut [u8], at: usize, width: u32, value: u64)
+    requires inside { at + width ≤ length bytes.old }
+    requires width { (width ≡ 1) ⊎ (width ≡ 2) ⊎ (width ≡ 4) ⊎ (width ≡ 8) }
+    ensures { slice_index bytes.new ≡ written (slice_index bytes.old) at width value }
+{
+    match width {
+        8 => write_number_of(bytes, at, 8, value),
+        4 => write_number_of(bytes, at, 4, value),
+        2 => write_number_of(bytes, at, 2, value),
+        _ => write_number_of(bytes, at, 1, value),
     }
 }
 
@@ -90,12 +169,31 @@ fn set_bytes(bytes: &mut Vec<u8>, list: &[u8])
     bytes.copy_from_slice(list);
 }
 
-// Makes every byte 0.
-fn clear_bytes(bytes: &mut [u8])
-    ensures len { length bytes.new ≡ length bytes.old }
-    ensures zero { slice_index bytes.new ≡ (λ _. 0) }
+// Appends zeros up to a length, for which there is room.
+#[cold]
+#[inline(never)]
+fn grow(bytes: &mut Vec<u8>, len: usize)
+    requires room { len ≤ vec_capacity bytes.old }
+    requires more { length bytes.old.items ≤ len }
+    ensures same { slice_index bytes.new.items ≡ slice_index bytes.old.items }
+    ensures len { length bytes.new.items ≡ len }
+    ensures capacity { vec_capacity bytes.old ≤ vec_capacity bytes.new }
 {
-    bytes.fill(0);
+    let _grown = bytes.resize(len, 0);
+}
+
+// Appends zeros where there are fewer bytes than a length, for which there is room.
+#[inline(always)]
+fn reach(bytes: &mut Vec<u8>, len: usize)
+    requires room { len ≤ vec_capacity bytes.old }
+    ensures same { slice_index bytes.new.items ≡ slice_index bytes.old.items }
+    ensures least { len ≤ length bytes.new.items }
+    ensures most { (n : ℕ) → length bytes.old.items ≤ n → len ≤ n → length bytes.new.items ≤ n }
+    ensures capacity { vec_capacity bytes.old ≤ vec_capacity bytes.new }
+{
+    if bytes.len() < len {
+        grow(bytes, len);
+    }
 }
 
 impl Memory {
@@ -113,8 +211,8 @@ impl Memory {
         Ok(Memory {
             data: zeros(alloc, image_len as usize)?,
             args: zeros(alloc, args_len as usize)?,
-            heap: zeros(alloc, 0x40_0000)?,
-            stack: zeros(alloc, 0x10_0000)?,
+            heap: Heap::new(alloc)?,
+            stack: Stack::new(alloc)?,
         })
     }
 
@@ -130,8 +228,8 @@ impl Memory {
         Ok(Memory {
             data: Vec::from_slice(alloc, image)?,
             args: Vec::from_slice(alloc, args)?,
-            heap: zeros(alloc, 0x40_0000)?,
-            stack: zeros(alloc, 0x10_0000)?,
+            heap: Heap::new(alloc)?,
+            stack: Stack::new(alloc)?,
         })
     }
 
@@ -151,13 +249,14 @@ impl Memory {
         }
         set_bytes(&mut self.data, image);
         set_bytes(&mut self.args, args);
-        clear_bytes(&mut self.heap);
-        clear_bytes(&mut self.stack);
+        self.heap.clear();
+        self.stack.clear();
         true
     }
 
     /// The number in `width` bytes from an address on, the lowest byte first. None exactly where not all
     /// bytes lie in one part. `width` is 1, 2, 4 or 8.
+    #[inline(always)]
     pub fn load(&self, address: u64, width: u32) -> Option<u64>
         requires { (width ≡ 1) ⊎ (width ≡ 2) ⊎ (width ≡ 4) ⊎ (width ≡ 8) }
         ensures value { result ≡ loaded (byte_at self.now) address width }
@@ -166,20 +265,21 @@ impl Memory {
         if lies_in(&self.data, DATA_BASE, address, width) {
             return Some(number_in(&self.data, (address - DATA_BASE) as usize, width));
         }
+        if lies_in_fixed(STACK_SIZE, STACK, address, width) {
+            return Some(self.stack.load((address - STACK) as usize, width));
+        }
+        if lies_in_fixed(HEAP_SIZE, HEAP, address, width) {
+            return Some(self.heap.load((address - HEAP) as usize, width));
+        }
         if lies_in(&self.args, ARGS, address, width) {
             return Some(number_in(&self.args, (address - ARGS) as usize, width));
-        }
-        if lies_in(&self.heap, HEAP, address, width) {
-            return Some(number_in(&self.heap, (address - HEAP) as usize, width));
-        }
-        if lies_in(&self.stack, STACK, address, width) {
-            return Some(number_in(&self.stack, (address - STACK) as usize, width));
         }
         None
     }
 
     /// Writes the low `width` bytes of a number from an address on, the lowest byte first. False exactly
     /// where not all bytes lie in one part, and then nothing changes. `width` is 1, 2, 4 or 8.
+    #[inline(always)]
     pub fn store(&mut self, address: u64, width: u32, value: u64) -> bool
         requires { (width ≡ 1) ⊎ (width ≡ 2) ⊎ (width ≡ 4) ⊎ (width ≡ 8) }
         ensures done { result ≡ mapped (byte_at self.old) address width }
@@ -191,16 +291,16 @@ impl Memory {
             write_number(&mut self.data, (address - DATA_BASE) as usize, width, value);
             return true;
         }
+        if lies_in_fixed(STACK_SIZE, STACK, address, width) {
+            self.stack.store((address - STACK) as usize, width, value);
+            return true;
+        }
+        if lies_in_fixed(HEAP_SIZE, HEAP, address, width) {
+            self.heap.store((address - HEAP) as usize, width, value);
+            return true;
+        }
         if lies_in(&self.args, ARGS, address, width) {
             write_number(&mut self.args, (address - ARGS) as usize, width, value);
-            return true;
-        }
-        if lies_in(&self.heap, HEAP, address, width) {
-            write_number(&mut self.heap, (address - HEAP) as usize, width, value);
-            return true;
-        }
-        if lies_in(&self.stack, STACK, address, width) {
-            write_number(&mut self.stack, (address - STACK) as usize, width, value);
             return true;
         }
         false
@@ -222,11 +322,11 @@ impl Space for Memory {
         if address >= ARGS && address - ARGS < self.args.len() as u64 {
             return Some(self.args[(address - ARGS) as usize]);
         }
-        if address >= HEAP && address - HEAP < self.heap.len() as u64 {
-            return Some(self.heap[(address - HEAP) as usize]);
+        if address >= HEAP && address - HEAP < HEAP_SIZE {
+            return Some(self.heap.get((address - HEAP) as usize));
         }
-        if address >= STACK && address - STACK < self.stack.len() as u64 {
-            return Some(self.stack[(address - STACK) as usize]);
+        if address >= STACK && address - STACK < STACK_SIZE {
+            return Some(self.stack.get((address - STACK) as usize));
         }
         None
     }

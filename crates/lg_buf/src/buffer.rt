@@ -4,9 +4,9 @@ ghost use Rattle.std.specs.Prelude.{◌≡◌, ℕ, ◌+◌, ◌<◌, ◌≤◌,
 ghost use Rattle.std.specs.List.{All};
 ghost use Rattle.lg_buf.specs.FixFields.{fix_len};
 ghost use Rattle.lg_buf.specs.Fixing.{Fits, Patched};
-ghost use Rattle.lg_buf.specs.Buffers.{AreApart, AreDone, EndsWithin, IsReady, place_of, place_or_zero};
+ghost use Rattle.lg_buf.specs.Buffers.{AreApart, AreDone, AreSound, EndsWithin, IsReady, place_of, place_or_zero};
 
-use crate::fixes::{CodeLabel, Fix, FixKind};
+use crate::fixes::{Fix, FixKind, Label32};
 use crate::patches;
 use crate::store::Store;
 use lg_base::{CodeBytes, OutOfMemory, Places};
@@ -125,6 +125,8 @@ impl CodeBuf {
         ensures capacity { self.now.capacity ≤ self.now.size }
         ensures small { self.now.size < 2 ^ 32 }
         ensures fixes { All (EndsWithin (length self.now.bytes)) self.now.fixes }
+        ensures are_bytes { All (λ b. b < 256) self.now.bytes }
+        ensures sound { AreSound (length self.now.bytes) (length self.now.labels) self.now.fixes }
     {
         // the size fits 32 bits
         let _size = self.size;
@@ -145,7 +147,7 @@ impl CodeBuf {
     }
 
     /// Binds a label to the place behind the last byte. It is one of the buffer's labels, and it isn't bound.
-    pub fn bind(&mut self, label: CodeLabel)
+    pub fn bind(&mut self, label: Label32)
         requires label { label.0 < length self.old.labels }
         requires unbound { place_of self.old.labels label.0 ≡ None }
         ensures { self.new ≡ record self.old { labels = slice_set self.old.labels label.0 (Some (length self.old.bytes)) } }
@@ -155,7 +157,7 @@ impl CodeBuf {
     }
 
     /// Binds a label to a place of the code, which is at most that behind the last byte. It is one of the buffer's labels, and it isn't bound.
-    pub fn bind_at(&mut self, label: CodeLabel, place: u32)
+    pub fn bind_at(&mut self, label: Label32, place: u32)
         requires label { label.0 < length self.old.labels }
         requires unbound { place_of self.old.labels label.0 ≡ None }
         requires place { place ≤ length self.old.bytes }
@@ -165,7 +167,7 @@ impl CodeBuf {
     }
 
     /// The place of a label, or None where it isn't bound. It is one of the buffer's labels.
-    pub fn bound(&self, label: CodeLabel) -> Option<u32>
+    pub fn bound(&self, label: Label32) -> Option<u32>
         requires { label.0 < length self.now.labels }
         ensures { result ≡ place_of self.now.labels label.0 }
     {
@@ -174,7 +176,7 @@ impl CodeBuf {
 
     /// Makes a fix: at the end its field is to lead to the place of the label, which is one of the buffer's. The fix's
     /// bytes were appended, none of them belongs to another fix, and fewer fixes were made than the buffer has room for.
-    pub fn fix(&mut self, place: u32, kind: FixKind, label: CodeLabel)
+    pub fn fix(&mut self, place: u32, kind: FixKind, label: Label32)
         requires emitted { place + fix_len kind ≤ length self.old.bytes }
         requires apart { All (λ f. AreApart f (record { place = place; kind = kind; label = label })) self.old.fixes }
         requires label { label.0 < length self.old.labels }

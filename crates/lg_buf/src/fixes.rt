@@ -34,7 +34,7 @@ pub enum FixKind {
 
 /// A label of a buffer, by its number from 0, below the number that the buffer was made with.
 #[derive(Clone, Copy, PartialEq, Eq)]
-pub struct CodeLabel(pub u32);
+pub struct Label32(pub u32);
 
 /// A field that will lead to the place of a label.
 #[derive(Clone, Copy, PartialEq, Eq)]
@@ -44,7 +44,7 @@ pub struct Fix {
     /// Which field it is.
     pub kind: FixKind,
     /// The label to whose place it will lead.
-    pub label: CodeLabel,
+    pub label: Label32,
 }
 
 impl FixKind {

@@ -10,4 +10,4 @@ mod store;
 mod words;
 
 pub use buffer::{CodeBuf, Finished};
-pub use fixes::{CodeLabel, Fix, FixKind};
+pub use fixes::{Fix, FixKind, Label32};

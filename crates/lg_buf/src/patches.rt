@@ -6,7 +6,7 @@ ghost use Rattle.lg_buf.specs.FixFields.{fix_len};
 ghost use Rattle.lg_buf.specs.Fixing.{Fits, Patched};
 ghost use Rattle.lg_buf.specs.Buffers.{AreSound, AreDone, IsReady, place_of};
 
-use crate::fixes::{CodeLabel, Fix, FixKind};
+use crate::fixes::{Fix, FixKind, Label32};
 use crate::store::Store;
 use crate::words::{
     distance, far_distance, with_branch, with_branch_26, with_cond_19, with_immediate, with_jump,
@@ -170,7 +170,7 @@ pub(crate) fn patch(store: &mut Store, place: u32, kind: FixKind, target: u32) -
 }
 
 // the place of a bound label
-fn bound_place(labels: &[Option<u32>], label: CodeLabel) -> u32
+fn bound_place(labels: &[Option<u32>], label: Label32) -> u32
     requires inside { label.0 < length labels.now }
     requires bound { (target : ℕ) × (place_of labels.now label.0 ≡ Some target) }
     ensures { place_of labels.now label.0 ≡ Some result }

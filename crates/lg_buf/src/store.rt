@@ -1,6 +1,7 @@
 // Bytes in room that is taken once. Only the model, the drop and the calls of the first block know what the room is.
 
 ghost use Rattle.std.specs.Prelude.{◌≡◌, ◌+◌, ◌<◌, ◌≤◌, ◌^◌, [], ◌∷◌, ◌++◌, length, slice_index, slice_set, IfOk};
+ghost use Rattle.std.specs.List.{All};
 ghost use Rattle.lg_base.specs.WordFronts.{word_at};
 ghost use Rattle.lg_buf.specs.Stores.{ChangesOnly};
 
@@ -20,7 +21,8 @@ pub(crate) struct Store {
 }
 
 impl Model for Store {
-    ghost use Rattle.std.specs.Prelude.{◌≡◌, length};
+    ghost use Rattle.std.specs.Prelude.{◌≡◌, ◌<◌, length};
+    ghost use Rattle.std.specs.List.{All};
     ghost use Rattle.lg_buf.specs.Stores.{StoredBytes, IsRoomFor};
 
     ghost Value = { StoredBytes };
@@ -33,6 +35,7 @@ impl Model for Store {
         × (s.lease.alloc ≡ s.alloc)
         × (s.lease.ptr ≡ s.region.ptr)
         × (s.lease.size ≡ s.region.size)
+        × All (λ b. b < 256) s.region.bytes
         × IsRoomFor s.size s.out };
 }
 
@@ -82,6 +85,7 @@ impl Store {
         ensures length { result ≡ length self.now.items }
         ensures within { length self.now.items ≤ self.now.size }
         ensures small { self.now.size < 2 ^ 32 }
+        ensures are_bytes { All (λ b. b < 256) self.now.items }
     {
         // the size fits 32 bits
         let _size = self.size;

@@ -11,16 +11,18 @@ use Rattle.lg_base.specs.declared.target.Target.TheVariants.{X86_64, Aarch64, Ri
 use Rattle.lg_node.specs.Functions.{home}
 use Rattle.lg_node.specs.Labels.{is_inner}
 use Rattle.lg_meaning.specs.States.{Frame, State, in_locals, in_any_locals, is_open}
-use Rattle.lg_meaning.specs.Fits.{IsTopOf}
+use Rattle.lg_meaning.specs.Fits.{IsTopOf, AreLinked, entry_stack}
 use Rattle.lg_carry.specs.FinalNodes.{Code, is_inside}
 use Rattle.lg_carry.specs.Homes.{homes_at}
 use Rattle.lg_carry.specs.Frames.{at_call, arriving, IsLinked, IsSettled, IsArriving, IsRunning, MayHoldCaller, HaveFrameWords}
+use Rattle.lg_carry.specs.Outer.{HoldsOuter, OuterIs, outer_stack}
 use Rattle.lg_carry.specs.Places.{AreStacked, ArePassedFew, HaveFewArguments}
 use Rattle.lg_carry.specs.Processors.{Seen, IsSeen, Processor, zone, is_below, stack_of, IsOff, TouchesAbove}
 use Rattle.lg_carry.specs.Registers.{HasWord, HoldsRegisters, HoldsCarry, HoldsResult, HoldsArguments}
 use Rattle.lg_carry.specs.Stands.{lowest, HasParts, StatesAgree}
 use Rattle.lg_carry.proofs.AgreeInFrameLemmas.{settled, running}
 use Rattle.lg_carry.proofs.KeptLemmas.{stack_arguments-kept, frames-kept, running-kept}
+use Rattle.lg_carry.proofs.OuterLemmas.{bottom-words, keeps-on, behind-entry, outer-inside, outer-called, called-outer, outer-room}
 use Rattle.lg_carry.proofs.StackLemmas.{stacked, few-arguments, stacked-running, words-above, within-where, locals-above, open-where, settled-size, stacked-high}
 use Rattle.lg_carry.proofs.WordLemmas.{word-kept}
 use Rattle.lg_carry.specs.Below.{LooksSame, StatesAreKept, StandsAreKept}
@@ -54,7 +56,8 @@ module _ (target : Target) (c : Code) (live : Frame → ℕ → Bool) (s : State
 
   -- where the stack pointer is at or below the frame, and what is open lies off it
   module _ (low : stack_of target q ≤ lowest s.frame) (room : (a : ℕ) → is_open s a ≡ true → (a < 0x3FF00000) ⊎ (stack_of target q ≤ a))
-      (frame : IsRunning (is_inside c s.at) target c.place r.bytes r.registers s.frame s.callers (live (at_call s.frame)) (homes_at c s.at)) where
+      (frame : IsRunning (is_inside c s.at) target c.place r.bytes r.registers s.frame s.callers (live (at_call s.frame)) (homes_at c s.at))
+      (outer : OuterIs (is_inside c s.at) target c s.at s.frame s.callers r) where
     tower : AreStacked s.frame.sp s.callers
     tower = stacked c.nodes c.shape s.frame s.callers st.fits.linked
 
@@ -90,6 +93,8 @@ module _ (target : Target) (c : Code) (live : Frame → ℕ → Bool) (s : State
       frame = frame;
       callers = frames-kept target c.place live (homes_at c) q.bytes r.bytes s.frame.sp s.frame.back s.callers tower args-few.1
           (λ a i. let k = words-above s.frame.sp s.callers a tower i in above a (omega (arith, k))) st.callers;
+      entry = st.entry;
+      outer = outer;
       memory = record { is = λ a b e. kept a (room a (st.fits.memory a b e)) ∙ st.memory.is a b e };
       mark = look.mark ∙ st.mark;
     }
@@ -108,6 +113,13 @@ module _ (target : Target) (c : Code) (live : Frame → ℕ → Bool) (s : State
       (running-kept target c.place q.bytes r.bytes q.registers r.registers s.frame s.callers (live (at_call s.frame)) (homes_at c s.at) (omega (arith, stack.0, stack.1))
       (λ a le lt. kept a (inr (omega (arith, le, at, stack.0, stack.1)))) (ap (λ w. w (frame_register target)) look.registers)
       (ap (λ w. w (stack_register target)) look.registers) before))
+      (outer-inside (is_inside c s.at) target c s.at s.frame s.callers r inside
+      (let o = behind-entry (is_inside c s.at) target c s.at s.frame s.callers q inside st.outer in record {
+        entry = o.entry;
+        keeps = keeps-on target c q.bytes r.bytes (outer-room c.nodes c.shape s.frame s.callers (outer_stack target c) st.fits.linked st.entry)
+            (λ a lo hi. let w = words-above (lowest s.frame) (s.frame ∷ s.callers) a stack (bottom-words s.frame s.callers (outer_stack target c) st.entry a lo hi) in
+            kept a (inr (omega (arith, w, at)))) o.keeps;
+      }))
 
   -- ---- before one
   no-size : (o : Option ℕ) → is_inner o s.at ≡ false → IsTopOf c.nodes c.shape s o → (s.frame.size ≡ 0) × (s.frame.locals ≡ 0)
@@ -136,6 +148,25 @@ module _ (target : Target) (c : Code) (live : Frame → ℕ → Bool) (s : State
         caller = subst (λ w. MayHoldCaller target w s.frame s.callers (live (at_call s.frame))) (sym look.registers) arrives.caller;
         arguments = subst (λ w. HoldsArguments target w s.frame.args) (sym look.registers) arrives.arguments;
       })
+      (outer-there s.callers refl st.fits.linked st.entry st.outer)
+    where
+      outer-there : (gs : List Frame) → s.callers ≡ gs → AreLinked c.nodes c.shape s.frame gs → entry_stack s.frame gs ≡ outer_stack target c
+          → OuterIs (is_inside c s.at) target c s.at s.frame gs q → OuterIs (is_inside c s.at) target c s.at s.frame gs r
+      outer-there [] e linked from o =
+          let b = subst (λ x. OuterIs x target c s.at s.frame [] q) outside o in
+          subst (λ x. OuterIs x target c s.at s.frame [] r) (sym outside) record { enters = b.enters; holds = subst (HoldsOuter target c) (sym look.registers) b.holds }
+      outer-there (g ∷ gs) e linked from o =
+          let b = called-outer (is_inside c s.at) target c s.at s.frame g gs q o in
+          let tower = stacked c.nodes c.shape s.frame (g ∷ gs) linked in
+          let arrives : IsArriving target c.place q.bytes q.registers s.frame s.callers (live (at_call s.frame)) =
+          subst (λ x. IsRunning x target c.place q.bytes q.registers s.frame s.callers (live (at_call s.frame)) (homes_at c s.at)) outside st.frame in
+          let at = arrives.stack in
+          let under = arriving-low target s.frame.sp in
+          outer-called (is_inside c s.at) target c s.at s.frame g gs r record {
+            entry = b.entry;
+            keeps = keeps-on target c q.bytes r.bytes (outer-room c.nodes c.shape g gs (outer_stack target c) linked.1 from)
+                (λ a lo hi. let w = words-above s.frame.sp (g ∷ gs) a tower (bottom-words g gs (outer_stack target c) from a lo hi) in kept a (inr (omega (arith, w, at, under)))) b.keeps;
+          }
 
   pub state-kept : StatesAgree target c live s r S
   state-kept = by (is_inside c s.at) refl

@@ -14,6 +14,7 @@ use Rattle.lg_meaning.specs.States.{Frame, State}
 use Rattle.lg_meaning.specs.Steps.{Outcome, Goes, Ends, Undefined}
 use Rattle.lg_carry.specs.Below.{LooksSame, Disturbs}
 use Rattle.lg_carry.specs.Disturbed.{AreSame, hidden_in, Overlooks, IsDisturber, next_of, disturbed, IsSteady, SteadyWaysLead}
+use Rattle.lg_carry.proofs.OuterLemmas.{ended-on}
 use Rattle.lg_carry.proofs.BelowLemmas.{not-below, state-kept, touches-same}
 
 -- where the stack pointer does not fall, what did not count does not count
@@ -115,7 +116,7 @@ module _ {Q : Type 0} (P : Processor Q) where
               wrote = f.0.out ∙ st.wrote;
               state = state-kept P.target c live t (P.seen (at steps)) (P.seen (at' steps).0) (after t) few st.state f.1 f.0.look;
             }
-        meets (Ends status) m =
+        meets (Ends e) m =
             let f = follows steps (omega arith) in (
               f.0.status ∙ m.0,
               f.0.out ∙ m.1,
@@ -123,6 +124,7 @@ module _ {Q : Type 0} (P : Processor Q) where
                 bytes = λ a lt. f.0.look.bytes a (not-below P.target _ a (inl lt)) ∙ m.2.bytes a lt;
                 mark = f.0.look.mark ∙ m.2.mark;
               },
+              ended-on P.target c e (P.seen (at steps)) (P.seen (at' steps).0) f.0.look.pc f.0.look.registers m.3,
             )
         meets Undefined m = absurd m
 

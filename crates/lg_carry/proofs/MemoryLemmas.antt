@@ -3,9 +3,9 @@ use Rattle.std.proofs.Common.{◌≡◌, ℕ, inl, inr, Bool, [], refl, sym, ap,
 use Rattle.lg_base.specs.Runs.{Machine, iter}
 use Rattle.lg_meaning.specs.Means.{run_at}
 use Rattle.lg_meaning.specs.Means as mean
-use Rattle.lg_meaning.specs.Starts.{start_state}
+use Rattle.lg_meaning.specs.Starts.{start_state_at}
 use Rattle.lg_meaning.specs.States.{Frame, State}
-use Rattle.lg_meaning.specs.Steps.{Outcome, Goes, Ends, Undefined}
+use Rattle.lg_meaning.specs.Steps.{ending_status, Outcome, Goes, Ends, Undefined}
 use Rattle.lg_meaning.specs.Texts.{step}
 use Rattle.lg_meaning.proofs.MeanLemmas.{means_are_machines}
 use Rattle.lg_temp.specs.Paces.{StandingAlike, LandsAlike, CarriesAlike}
@@ -45,15 +45,15 @@ module _ {M Q : Type 0} (m : Machine M) (state : M → State) (P : Processor Q) 
           subst (λ x. Stands P c (λ f. before f.back) x (m.out (m.step p)) end (before x.at)) (sym g.1)
           (subst (λ x. Stands P c (λ f. before f.back) t x end (before t.at)) (sym g.2) l.there) in
           record { steps = l.steps; few = l.few; there = inr (g.0, there) }
-      by (Ends n) e l =
-          let g = ok.steps.ends p n h.0 e in
+      by (Ends x) e l =
+          let g = ok.steps.ends p x h.0 e in
           let before-it = shares p q h in
           let kept = l.there.2 in
           record {
             steps = l.steps;
             few = l.few;
             there = inl (
-              n,
+              ending_status x,
               g.0,
               l.there.0,
               l.there.1 ∙ sym g.1,
@@ -69,7 +69,7 @@ module _ {M Q : Type 0} (m : Machine M) (state : M → State) (P : Processor Q) 
   carried-keep-pace p q st = keeps-pace m P.machine (AlikeInMemory state P) At ok.meaning standing carry p q st
 
 pub code-keeps-pace : {Q : Type 0} (P : Processor Q) → CodeKeepsPace P
-code-keeps-pace P c before image args q machine nodes st =
+code-keeps-pace P c before sp image args q machine nodes st =
     let is = means_are_machines c.nodes c.shape c.addresses in
     carried-keep-pace (mean.machine c.nodes c.shape c.addresses) (λ r. r.state) P c before
-    record { meaning = is.0; silent = is.1; steps = meaning-steps c; processor = machine; nodes = nodes } (run_at (start_state image args) []) q (refl, st)
+    record { meaning = is.0; silent = is.1; steps = meaning-steps c; processor = machine; nodes = nodes } (run_at (start_state_at sp image args) []) q (refl, st)

@@ -24,10 +24,11 @@ use Rattle.lg_carry.specs.Places.{ArePassedFew}
 use Rattle.lg_carry.specs.Processors.{Seen, IsSeen, TouchesAbove, Processor, zone, is_below, stack_of, DoesNotRise}
 use Rattle.lg_carry.specs.Stands.{Stands}
 use Rattle.lg_meaning.specs.States.{Frame, State}
-use Rattle.lg_meaning.specs.Steps.{Outcome, Goes, Ends, Undefined}
+use Rattle.lg_meaning.specs.Steps.{ending_status, Outcome, Goes, Ends, Undefined}
 use Rattle.lg_carry.specs.Below.{LooksSame, Disturbs}
 use Rattle.lg_carry.specs.Disturbed.{AreSame, hidden_in, IsDisturber, next_of, disturbed, LeavesAlone, IsSinking, Patches, SinksTo, LiesApart, SinkingWaysLead}
 use Rattle.lg_carry.proofs.BelowLemmas.{not-below, state-kept, stands-kept, touches-same}
+use Rattle.lg_carry.proofs.OuterLemmas.{ended-on}
 use Rattle.lg_carry.proofs.DisturbedLemmas.{same-more, same-self, disturbs-same, same-stack}
 
 below-more : (target : Target) (s t a : ℕ) → s ≤ t → is_below target s a ≡ true → is_below target t a ≡ true
@@ -240,10 +241,10 @@ module _ {Q : Type 0} (P : Processor Q) where
 
         by : (x : Outcome) → Meets P c live after r x out (iter P.machine.step v.way.steps r) → ⊥
         by (Goes t bytes) there = not-there t.at there.state.fits.inside (sym same.look.pc ∙ there.state.here)
-        by (Ends status) there = no-end (sym runs ∙ sym same.status ∙ there.0)
+        by (Ends e) there = no-end (sym runs ∙ sym same.status ∙ there.0)
           where
-            no-end : Running ≡ Ended status → ⊥
-            no-end e = cc
+            no-end : Running ≡ Ended (ending_status e) → ⊥
+            no-end z = cc
         by Undefined there = there
 
     -- a state at the node from which so many steps lead to the same without changes, and at least one leads on
@@ -416,13 +417,14 @@ module _ {Q : Type 0} (P : Processor Q) where
       wrote = f.out ∙ there.wrote;
       state = state-kept P.target c live t (P.seen u) (P.seen v) (after t) few there.state (seen there.state.seen) f.look;
     }
-    meets p low (Ends status) u v f seen there j = (
+    meets p low (Ends e) u v f seen there j = (
       f.status ∙ there.0,
       f.out ∙ there.1,
       record {
         bytes = λ a lt. f.look.bytes a (not-below P.target _ a (inl lt)) ∙ there.2.bytes a lt ∙ low.bytes a lt;
         mark = f.look.mark ∙ there.2.mark ∙ low.mark;
       },
+      ended-on P.target c e (P.seen u) (P.seen v) f.look.pc f.look.registers there.3,
     )
     meets p low Undefined u v f seen there j = absurd there
 

@@ -47,6 +47,6 @@ module _ {Q : Type 0} (P : Processor Q) (d : ℕ → Q → Q) (disturbs : IsDist
         leads s out x st (inr h) = sinking-leads P d c (λ f. before f.back) (λ t. before t.at) i s (before i) _ out x.1 x.0 pt disturbs few h.0 w.apart st h.1
 
 pub disturbed-agrees : {Q : Type 0} (P : Processor Q) → DisturbedCodeAgrees P
-disturbed-agrees P d c before image args q k n pt disturbs machine few nodes st =
-    code-agrees (disturbed P d) c before image args (q, k) n (disturbed-is-machine P d disturbs machine) (λ i lt. withstands-carries P d disturbs c before pt few i (nodes i lt))
+disturbed-agrees P d c before sp image args q k n pt disturbs machine few nodes st =
+    code-agrees (disturbed P d) c before sp image args (q, k) n (disturbed-is-machine P d disturbs machine) (λ i lt. withstands-carries P d disturbs c before pt few i (nodes i lt))
     record { runs = st.runs; wrote = st.wrote; state = st.state }

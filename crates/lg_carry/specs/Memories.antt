@@ -4,7 +4,7 @@ use Rattle.lg_base.specs.Parts.{stack_base}
 use Rattle.lg_base.specs.Runs.{Machine, IsMachine}
 use Rattle.lg_meaning.specs.Means.{run_at}
 use Rattle.lg_meaning.specs.Means as mean
-use Rattle.lg_meaning.specs.Starts.{start_state}
+use Rattle.lg_meaning.specs.Starts.{start_state_at}
 use Rattle.lg_meaning.specs.States.{State}
 use Rattle.lg_temp.specs.Paces.{KeepsPace}
 use Rattle.lg_carry.specs.Processors.{Processor}
@@ -31,6 +31,6 @@ CarriedRunsKeepPace {M} {Q} m state P c before =
 -- so it does from the start, where it stands for the state there
 abbrev pub CodeKeepsPace : {Q : Type 0} → Processor Q → Type 0
 CodeKeepsPace {Q} P =
-    (c : Code) (before : ℕ → ℕ → Bool) (image args : List ℕ) (q : Q) → IsMachine P.machine → ((i : ℕ) → i < length c.nodes.nodes → Carries P c before i)
-    → Stands P c (λ f. before f.back) (start_state image args) [] q (before 0)
-    → KeepsPace (mean.machine c.nodes c.shape c.addresses) P.machine (AlikeInMemory (λ r. r.state) P) (run_at (start_state image args) []) q
+    (c : Code) (before : ℕ → ℕ → Bool) (sp : ℕ) (image args : List ℕ) (q : Q) → IsMachine P.machine → ((i : ℕ) → i < length c.nodes.nodes → Carries P c before i)
+    → Stands P c (λ f. before f.back) (start_state_at sp image args) [] q (before 0)
+    → KeepsPace (mean.machine c.nodes c.shape c.addresses) P.machine (AlikeInMemory (λ r. r.state) P) (run_at (start_state_at sp image args) []) q

@@ -1,4 +1,4 @@
-pub mod CellLemmas
-pub mod FirstLemmas
 pub mod LoadLemmas
+pub mod PartLemmas
 pub mod PlaceLemmas
+pub mod WordLemmas

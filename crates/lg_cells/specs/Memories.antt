@@ -1,32 +1,36 @@
 -- The memory of the portable machine: which bytes stand at which addresses, and which addresses can be written.
 use Rattle.std.specs.Prelude.{◌≡◌, ℕ, zero, suc, ◌+◌, ◌-◌, ◌<◌, ◌≤◌, ◌&&◌, Bool, true, false, length, if◌then◌else◌, Option, Some, None, List, slice_index}
 use Rattle.lg_cells.specs.declared.cell.Cell.{Cell}
-use Rattle.lg_cells.specs.declared.cell.Cell.TheVariants.{Closed, Fresh}
-use Rattle.lg_cells.specs.Cells.{byte_in, is_room, cell_of, within}
+use Rattle.lg_cells.specs.declared.cell.Cell.TheVariants.{Closed}
+use Rattle.lg_cells.specs.Cells.{Marks, byte_in, is_room, cell_of, room_of, within}
 
--- the sizes of the data part and of the argument part, the first address of the heap that is not handed out, and the cells of
--- the data, the arguments, the heap and the stack, in this order
+-- the sizes of the data part and of the argument part, the first address of the heap that is not handed out, the part of the data, the
+-- arguments and the heap, in this order, and the part of the stack, from its end down
 pub record Marked : Type 0 where
   pub data_size : ℕ
   pub args_size : ℕ
   pub mark : ℕ
-  pub cells : List Cell
+  pub low : Marks
+  pub stack : Marks
 
--- the place of an address among the cells: one of the data, of the arguments, of the heap below the mark, or of the stack
+-- the place of an address below the stack: one of the data, of the arguments, or of the heap below the mark
 abbrev pub place_of : ℕ → ℕ → ℕ → ℕ → Option ℕ
 place_of d g mark a =
     if within 0x20000000 d a then Some (a - 0x20000000)
     else (if within 0x28000000 g a then Some (a - 0x28000000 + d)
-    else (if within 0x30000000 (mark - 0x30000000) a then Some (a - 0x30000000 + d + g)
-    else (if within 0x3FF00000 0x100000 a then Some (a - 0x3FF00000 + d + g + 0x400000) else None)))
+    else (if within 0x30000000 (mark - 0x30000000) a then Some (a - 0x30000000 + d + g) else None))
 
-abbrev pub cell_in : List Cell → Option ℕ → Cell
-cell_in cells None = Closed
-cell_in cells (Some place) = cell_of cells place
+-- the cell of an address of the stack
+abbrev pub stack_cell : Marks → ℕ → Cell
+stack_cell stack a = if within 0x3FF00000 0x100000 a then cell_of stack (0x3FFFFFFF - a) else Closed
+
+abbrev pub cell_in : Marks → Cell → Option ℕ → Cell
+cell_in low other None = other
+cell_in low other (Some place) = cell_of low place
 
 -- the cell of an address
 abbrev pub cell_at : Marked → ℕ → Cell
-cell_at m a = cell_in m.cells (place_of m.data_size m.args_size m.mark a)
+cell_at m a = cell_in m.low (stack_cell m.stack a) (place_of m.data_size m.args_size m.mark a)
 
 -- the byte that was written at an address
 abbrev pub byte_at : Marked → ℕ → Option ℕ
@@ -36,16 +40,21 @@ byte_at m a = byte_in (cell_at m a)
 abbrev pub room_at : Marked → ℕ → Bool
 room_at m a = is_room (cell_at m a)
 
--- how a memory is held: the parts are no larger than they may be, no cell of the heap is closed, and those from the mark on were
--- never written
+-- how a memory is held: the parts are no larger than they may be, there is room for the whole heap and stack, and no cell of the heap
+-- below the mark is closed
 pub record IsMarked (m : Marked) : Type 0 where
   pub data_small : m.data_size ≤ 0x1000000
   pub args_small : m.args_size ≤ 0x100000
   pub mark_low : 0x30000000 ≤ m.mark
   pub mark_high : m.mark ≤ 0x30400000
-  pub len : length m.cells ≡ m.data_size + m.args_size + 0x500000
-  pub heap : (k : ℕ) → m.data_size + m.args_size ≤ k → k < m.data_size + m.args_size + 0x400000 → is_room (cell_of m.cells k) ≡ true
-  pub fresh : (k : ℕ) → m.data_size + m.args_size + (m.mark - 0x30000000) ≤ k → k < m.data_size + m.args_size + 0x400000 → cell_of m.cells k ≡ Fresh
+  pub low_len : length m.low.marks ≡ m.data_size + m.args_size + (m.mark - 0x30000000)
+  pub low_most : m.low.most ≡ m.data_size + m.args_size + 0x400000
+  pub stack_most : m.stack.most ≡ 0x100000
+  pub heap : (k : ℕ) → m.data_size + m.args_size ≤ k → k < m.data_size + m.args_size + (m.mark - 0x30000000) → room_of m.low k ≡ true
+
+-- so many addresses have this cell
+abbrev pub fills : (ℕ → Cell) → ℕ → ℕ → Cell → ℕ → Cell
+fills cells from count cell a = if within from count a then cell else cells a
 
 -- bytes without those of so many addresses
 abbrev pub without : (ℕ → Option ℕ) → ℕ → ℕ → ℕ → Option ℕ
@@ -78,3 +87,9 @@ writable room address (suc width) = room address && writable room (address + 1) 
 pub record IsSameSize (old new : Marked) : Type 0 where
   pub data_same : new.data_size ≡ old.data_size
   pub args_same : new.args_size ≡ old.args_size
+
+-- the place of the first of so many addresses, all of which lie in one part below the stack; None says nothing
+abbrev pub IsSpan : Marked → ℕ → ℕ → Option ℕ → Type 0
+IsSpan m a width None = Unit {0}
+IsSpan m a width (Some at) = (at + width ≤ m.data_size + m.args_size + (m.mark - 0x30000000))
+    × ((i : ℕ) → i < width → place_of m.data_size m.args_size m.mark (a + i) ≡ Some (at + i))

@@ -3,6 +3,8 @@
 
 mod cell;
 mod memory;
+mod part;
+mod word;
 
 pub use cell::Cell;
 pub use memory::CellMemory;

@@ -1,11 +1,12 @@
 // The memory of the portable machine.
 
-ghost use Rattle.std.specs.Prelude.{◌≡◌, ℕ, ◌+◌, ◌-◌, ◌<◌, ◌≤◌, ◌^◌, ◌⊎◌, length, IsTrue, IfOk, if◌then◌else◌};
+ghost use Rattle.std.specs.Prelude.{◌≡◌, ℕ, ◌+◌, ◌-◌, ◌<◌, ◌≤◌, ◌^◌, length, IsTrue, IfOk, if◌then◌else◌, true, false};
 ghost use Rattle.lg_base.specs.Spaces.{put_some, raised, loaded, stored};
-ghost use Rattle.lg_cells.specs.Cells.{cell_of, is_room, first_cells};
-ghost use Rattle.lg_cells.specs.Memories.{byte_at, room_at, place_of, without, opened, closed, first_bytes, first_room, writable, cell_at, IsSameSize};
+ghost use Rattle.lg_cells.specs.Cells.{cell_by, cell_of, first_cells, is_room};
+ghost use Rattle.lg_cells.specs.Memories.{byte_at, room_at, place_of, stack_cell, without, opened, closed, first_bytes, first_room, writable, cell_at, fills, IsSameSize, IsSpan};
 
-use crate::cell::{Cell, closed_cells, fill, put_bytes};
+use crate::cell::Cell;
+use crate::part::{CLOSED, FRESH, Part};
 use lg_base::layout::DATA_BASE;
 use lg_base::{OutOfMemory, Space};
 use std::alloc::Global;
@@ -29,7 +30,8 @@ pub struct CellMemory {
     data_size: u64,
     args_size: u64,
     mark: u64,
-    cells: Vec<Cell>,
+    low: Part,
+    stack: Part,
 }
 
 impl Model for CellMemory {
@@ -37,12 +39,12 @@ impl Model for CellMemory {
 
     ghost Value = { Marked };
 
-    ghost view = { λ m. record { data_size = m.data_size; args_size = m.args_size; mark = m.mark; cells = m.cells.items } };
+    ghost view = { λ m. record { data_size = m.data_size; args_size = m.args_size; mark = m.mark; low = m.low; stack = m.stack } };
 
-    ghost invariant = { λ m. IsMarked record { data_size = m.data_size; args_size = m.args_size; mark = m.mark; cells = m.cells.items } };
+    ghost invariant = { λ m. IsMarked record { data_size = m.data_size; args_size = m.args_size; mark = m.mark; low = m.low; stack = m.stack } };
 }
 
-// The place of an address among the cells, for parts of these sizes.
+// The place of an address below the stack, for parts of these sizes.
 fn place(data_size: u64, args_size: u64, mark: u64, address: u64) -> Option<usize>
     requires data_part { data_size ≤ 0x1000000 }
     requires args { args_size ≤ 0x100000 }
@@ -55,28 +57,34 @@ fn place(data_size: u64, args_size: u64, mark: u64, address: u64) -> Option<usiz
         Some((address - ARGS + data_size) as usize)
     } else if HEAP <= address && address < mark {
         Some((address - HEAP + data_size + args_size) as usize)
-    } else if STACK <= address && address < STACK + STACK_SIZE {
-        Some((address - STACK + data_size + args_size + HEAP_SIZE) as usize)
     } else {
         None
     }
 }
 
-// Sets cells that are closed to the bytes of a data and an argument part, and those of the heap behind them to fresh ones.
-fn begin(cells: &mut [Cell], image: &[u8], args: &[u8])
+// The cell of an address of the stack.
+fn stack_cell(stack: &Part, address: u64) -> Cell
+    ensures { result ≡ stack_cell stack.now address }
+{
+    if STACK <= address && address < STACK + STACK_SIZE {
+        stack.cell((STACK + STACK_SIZE - 1 - address) as usize)
+    } else {
+        Cell::Closed
+    }
+}
+
+// The part of the data and the arguments, with room for the heap after them.
+fn first_part(alloc: Global, image: &[u8], args: &[u8]) -> Result<Part, OutOfMemory>
     requires image { length image.now ≤ 0x1000000 }
     requires args { length args.now ≤ 0x100000 }
-    requires room { length image.now + length args.now + 0x400000 ≤ length cells.old }
-    ensures { cell_of cells.new ≡ first_cells (cell_of cells.old) image.now args.now }
+    ensures cells { IfOk result (λ p. cell_of p ≡ first_cells image.now args.now) }
+    ensures len { IfOk result (λ p. length p.marks ≡ length image.now + length args.now) }
+    ensures most { IfOk result (λ p. p.most ≡ length image.now + length args.now + 0x400000) }
 {
-    put_bytes(cells, 0, image);
-    put_bytes(cells, image.len(), args);
-    fill(
-        cells,
-        image.len() + args.len(),
-        HEAP_SIZE as usize,
-        Cell::Fresh,
-    );
+    let mut part = Part::with_capacity(alloc, image.len() + args.len() + HEAP_SIZE as usize)?;
+    part.append(image);
+    part.append(args);
+    Ok(part)
 }
 
 impl CellMemory {
@@ -91,16 +99,12 @@ impl CellMemory {
         ensures args_size { IfOk result (λ m. m.args_size ≡ length args.now) }
         ensures mark { IfOk result (λ m. m.mark ≡ 0x30000000) }
     {
-        let mut cells = closed_cells(
-            alloc,
-            image.len() + args.len() + (HEAP_SIZE + STACK_SIZE) as usize,
-        )?;
-        begin(&mut cells, image, args);
         Ok(CellMemory {
             data_size: image.len() as u64,
             args_size: args.len() as u64,
             mark: HEAP,
-            cells,
+            low: first_part(alloc, image, args)?,
+            stack: Part::with_capacity(alloc, STACK_SIZE as usize)?,
         })
     }
 
@@ -108,8 +112,11 @@ impl CellMemory {
     fn cell(&self, address: u64) -> Cell
         ensures { result ≡ cell_at self.now address }
     {
+        if address >= STACK {
+            return stack_cell(&self.stack, address);
+        }
         match place(self.data_size, self.args_size, self.mark, address) {
-            Some(at) => self.cells[at],
+            Some(at) => self.low.cell(at),
             None => Cell::Closed,
         }
     }
@@ -134,20 +141,36 @@ impl CellMemory {
         ensures value { result ≡ cell_at self.now (address + count) }
         ensures end { IsTrue (is_room result) → address + count < 2 ^ 64 }
     {
-        match place(
-            self.data_size,
-            self.args_size,
-            self.mark,
-            address.wrapping_add(count),
-        ) {
-            Some(at) => self.cells[at],
+        // by the sizes of the parts there is nothing after the last address
+        let _ = &self.mark;
+        match address.checked_add(count) {
+            Some(address) => self.cell(address),
             None => Cell::Closed,
         }
     }
 
-    /// The number in `width` bytes from an address on, the lowest byte first. None exactly where one of them was never written or
-    /// can't stand there, as bytes behind the last address. `width` is at most 8.
-    pub fn load(&self, address: u64, width: u32) -> Option<u64>
+    // The place of the first of `width` addresses, if they all lie in one part below the stack. None says nothing.
+    #[inline(always)]
+    fn span(&self, address: u64, width: u32) -> Option<usize>
+        requires { width ≤ 8 }
+        ensures { IsSpan self.now address width result }
+    {
+        let end = address.checked_add(u64::from(width))?;
+        if DATA_BASE <= address && end <= DATA_BASE + self.data_size {
+            return Some((address - DATA_BASE) as usize);
+        }
+        if HEAP <= address && end <= self.mark {
+            return Some((address - HEAP + self.data_size + self.args_size) as usize);
+        }
+        if ARGS <= address && end <= ARGS + self.args_size {
+            return Some((address - ARGS + self.data_size) as usize);
+        }
+        None
+    }
+
+    // The number in `width` bytes, cell by cell.
+    #[inline(never)]
+    fn load_each(&self, address: u64, width: u32) -> Option<u64>
         requires { width ≤ 8 }
         ensures { result ≡ loaded (byte_at self.now) address width }
     {
@@ -161,6 +184,21 @@ impl CellMemory {
             }
         }
         Some(value)
+    }
+
+    /// The number in `width` bytes from an address on, the lowest byte first. None exactly where one of them was never written or
+    /// can't stand there, as bytes behind the last address. `width` is at most 8.
+    #[inline(always)]
+    pub fn load(&self, address: u64, width: u32) -> Option<u64>
+        requires { width ≤ 8 }
+        ensures { result ≡ loaded (byte_at self.now) address width }
+    {
+        if let Some(at) = self.span(address, width)
+            && let Some(word) = self.low.word(at, width)
+        {
+            return Some(word);
+        }
+        self.load_each(address, width)
     }
 
     /// Whether each of `width` bytes from an address on can be written; bytes behind the last address can't. `width` is at most 8.
@@ -189,8 +227,62 @@ impl CellMemory {
     {
         let mut rest = value;
         for i in 0..width as u64 {
-            let _ = self.write(address + i, (rest % 256) as u8);
+            self.put_byte(address + i, (rest % 256) as u8);
             rest /= 256;
+        }
+    }
+
+    // Writes a number cell by cell, if each of its bytes can be written. Returns false if not, and then nothing changes.
+    #[inline(never)]
+    fn put_each(&mut self, address: u64, width: u32, value: u64) -> bool
+        requires { width ≤ 8 }
+        ensures done { result ≡ writable (room_at self.old) address width }
+        ensures bytes { byte_at self.new ≡ (if result then stored (byte_at self.old) address width value else byte_at self.old) }
+        ensures rooms { room_at self.new ≡ room_at self.old }
+        ensures sizes { IsSameSize self.old self.new }
+        ensures unchanged { result ≡ false → self.new ≡ self.old }
+    {
+        if !self.can_store(address, width) {
+            return false;
+        }
+        self.store(address, width, value);
+        true
+    }
+
+    /// Writes the low `width` bytes of a number from an address on, the lowest byte first, if each of them can be written. False
+    /// exactly where not, as for bytes after the last address, and then nothing changes. `width` is at most 8.
+    #[inline(always)]
+    pub fn put_word(&mut self, address: u64, width: u32, value: u64) -> bool
+        requires { width ≤ 8 }
+        ensures done { result ≡ writable (room_at self.old) address width }
+        ensures bytes { byte_at self.new ≡ (if result then stored (byte_at self.old) address width value else byte_at self.old) }
+        ensures rooms { room_at self.new ≡ room_at self.old }
+        ensures sizes { IsSameSize self.old self.new }
+        ensures unchanged { result ≡ false → self.new ≡ self.old }
+    {
+        if let Some(at) = self.span(address, width)
+            && self.low.put_word(at, width, value)
+        {
+            return true;
+        }
+        self.put_each(address, width, value)
+    }
+
+    // Writes a byte where one can be written.
+    #[inline]
+    fn put_byte(&mut self, address: u64, byte: u8)
+        requires { room_at self.old address ≡ true }
+        ensures bytes { byte_at self.new ≡ put_some (byte_at self.old) address byte }
+        ensures rooms { room_at self.new ≡ room_at self.old }
+        ensures sizes { IsSameSize self.old self.new }
+    {
+        if address >= STACK {
+            self.stack
+                .set((STACK + STACK_SIZE - 1 - address) as usize, byte);
+            return;
+        }
+        if let Some(at) = place(self.data_size, self.args_size, self.mark, address) {
+            self.low.set(at, byte);
         }
     }
 
@@ -204,11 +296,21 @@ impl CellMemory {
         if !self.is_room(address) {
             return false;
         }
-        let Some(at) = place(self.data_size, self.args_size, self.mark, address) else {
-            return false;
-        };
-        self.cells[at] = Cell::Holds(byte);
+        self.put_byte(address, byte);
         true
+    }
+
+    // Gives this many addresses of the stack, from one on, a mark. No byte is there then.
+    fn mark_stack(&mut self, from: u64, count: u64, mark: u8)
+        requires low { 0x3FF00000 ≤ from }
+        requires high { from + count ≤ 0x40000000 }
+        requires mark { mark < 2 }
+        ensures cells { cell_at self.new ≡ fills (cell_at self.old) from count (cell_by mark 0) }
+        ensures sizes { IsSameSize self.old self.new }
+    {
+        let end = (STACK + STACK_SIZE - from) as usize;
+        self.stack.reach(end);
+        self.stack.fill(end - count as usize, count as usize, mark);
     }
 
     /// Lets so many addresses of the stack from one on be written; no byte stands there. They lie from 0x3FF00000 to
@@ -220,8 +322,7 @@ impl CellMemory {
         ensures rooms { room_at self.new ≡ opened (room_at self.old) from count }
         ensures sizes { IsSameSize self.old self.new }
     {
-        let at = from - STACK + self.data_size + self.args_size + HEAP_SIZE;
-        fill(&mut self.cells, at as usize, count as usize, Cell::Fresh);
+        self.mark_stack(from, count, FRESH);
     }
 
     /// Takes so many addresses of the stack from one on out of the memory, with their bytes. They lie from 0x3FF00000 to
@@ -233,8 +334,7 @@ impl CellMemory {
         ensures rooms { room_at self.new ≡ closed (room_at self.old) from count }
         ensures sizes { IsSameSize self.old self.new }
     {
-        let at = from - STACK + self.data_size + self.args_size + HEAP_SIZE;
-        fill(&mut self.cells, at as usize, count as usize, Cell::Closed);
+        self.mark_stack(from, count, CLOSED);
     }
 }
 
@@ -259,6 +359,8 @@ impl Space for CellMemory {
 
     fn raise(&mut self, mark: u64) {
         if mark > self.mark {
+            let len = self.data_size + self.args_size + (mark - HEAP);
+            self.low.grow(len as usize, FRESH);
             self.mark = mark;
         }
     }

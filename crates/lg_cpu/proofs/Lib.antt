@@ -1,7 +1,5 @@
 mod A64FaultLemmas
 mod A64OperatorLemmas
-pub mod A64RunLemmas
-pub mod A64SoundLemmas
 mod ArgumentLemmas
 mod CallLemmas
 mod DecodeLemmas
@@ -9,15 +7,19 @@ mod FaultLemmas
 mod FollowLemmas
 mod OperatorLemmas
 mod RoomLemmas
-pub mod RunLemmas
 mod RvFaultLemmas
 mod SaysLemmas
-pub mod SeriesLemmas
-pub mod SoundLemmas
 mod StartLemmas
-pub mod StepLemmas
 mod TargetLemmas
 mod WordLemmas
 mod X86FaultLemmas
+mod X86NextLemmas
+pub mod A64RunLemmas
+pub mod A64SoundLemmas
+pub mod CacheLemmas
+pub mod RunLemmas
+pub mod SeriesLemmas
+pub mod SoundLemmas
+pub mod StepLemmas
 pub mod X86RunLemmas
 pub mod X86SoundLemmas

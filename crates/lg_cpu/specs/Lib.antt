@@ -1,9 +1,11 @@
 pub mod A64Groups
+pub mod A64LazyFlags
 pub mod A64Operators
 pub mod A64Step
 pub mod Answers
 pub mod Fetches
 pub mod HostSteps
+pub mod Decodings
 pub mod Laws
 pub mod Loads
 pub mod Machines
@@ -15,5 +17,6 @@ pub mod States
 pub mod Steps
 pub mod Targets
 pub mod X86Groups
+pub mod X86LazyFlags
 pub mod X86Operators
 pub mod X86Step

@@ -26,6 +26,7 @@ pub struct Cpu {
 }
 
 // Whether a step that comes to this is counted.
+#[inline(always)]
 fn is_counted(answer: CpuStep) -> bool
     ensures { result ≡ is_counted answer }
 {
@@ -59,12 +60,17 @@ impl Cpu {
         ensures { IfOk result (λ c. shown c ≡ shown_at_start target code.now.items image.now args.now trash) }
     {
         let board = Board {
-            code: CodeBytes::of(alloc, code.as_slice())?,
             memory: Memory::with_parts(alloc, image.as_slice(), args.as_slice())?,
             heap: HeapMark::new(),
             trash,
         };
-        let processor = Processor::new(target, board, argument_count(args.as_slice()));
+        let processor = Processor::new(
+            alloc,
+            target,
+            code.as_slice(),
+            board,
+            argument_count(args.as_slice()),
+        )?;
         Ok(Cpu {
             processor,
             answer: CpuStep::Went,
@@ -89,6 +95,7 @@ impl Cpu {
     }
 
     /// The program counter.
+    #[inline(always)]
     pub fn pc(&self) -> u64
         ensures { result ≡ (shown self.now).state.pc }
     {
@@ -106,6 +113,7 @@ impl Cpu {
     /// then changes nothing. Where a write failed a part of the output may have been written, and nothing else changed.
     /// After an answer other than `Went` the same is answered again, and nothing changes. Fewer than `u64::MAX` steps were
     /// taken.
+    #[inline(always)]
     pub fn step<O: Sink>(&mut self, out: &mut O) -> CpuStep
         requires { (shown self.old).steps < 2 ^ 64 - 1 }
         ensures says { CpuSays (shown self.old) (shown self.new) (O.taken out.old) (O.taken out.new) (O.faults out.old) (O.faults out.new) result }
@@ -118,6 +126,7 @@ impl Cpu {
     }
 
     // Takes a step of a run that is not over.
+    #[inline(always)]
     fn go_on<O: Sink>(&mut self, out: &mut O) -> CpuStep
         requires going { self.old.answer ≡ CpuStep.Went }
         requires few { self.old.steps < 2 ^ 64 - 1 }

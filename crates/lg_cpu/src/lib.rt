@@ -6,6 +6,7 @@ pub mod answer;
 mod arguments;
 mod board;
 pub mod cpu;
+mod decode_cache;
 pub mod laws;
 mod processor;
 mod riscv64;

@@ -1,15 +1,17 @@
 // The processor of a target.
 
-ghost use Rattle.std.specs.Prelude.{◌≡◌, ◌<◌, ◌≤◌, ◌⊎◌, ◌+◌, ◌^◌, ◌↔◌, IsTrue, if◌then◌else◌, nat_lt};
+ghost use Rattle.std.specs.Prelude.{◌≡◌, ◌<◌, ◌≤◌, ◌⊎◌, ◌+◌, ◌^◌, ◌↔◌, length, IfOk, IsTrue, if◌then◌else◌, nat_lt};
 
 use crate::aarch64::Aarch64;
 use crate::answer::CpuStep;
 use crate::board::Board;
+use crate::decode_cache::DecodeCache;
 use crate::riscv64::Riscv64;
 use crate::series::{Advanced, advance};
 use crate::x86_64::X86_64;
-use lg_base::{CodeBytes, Flags, Target};
+use lg_base::{CodeBytes, Flags, OutOfMemory, Target};
 use lg_io::Sink;
+use std::alloc::Global;
 
 /// A processor with what it works on.
 #[derive(Drop)]
@@ -36,14 +38,33 @@ impl Processor {
     ghost use Rattle.lg_cpu.specs.Starts.{HasRoom};
 
     /// The processor of a target before its first step, with the number of arguments.
-    pub fn new(target: Target, board: Board, count: u64) -> Processor
+    pub fn new(
+        alloc: Global,
+        target: Target,
+        code: &[u8],
+        board: Board,
+        count: u64,
+    ) -> Result<Processor, OutOfMemory>
+        requires code { length code.now < 2 ^ 32 }
         requires stack { mapped (byte_at board.memory) (return_word stack_end) 8 ≡ true }
-        ensures { inner result ≡ inner_of target (begins target count board.trash (byte_at board.memory) board.heap) board }
+        ensures { IfOk result (λ p. inner p ≡ inner_of target (begins target count board.trash (byte_at board.memory) board.heap) code.now board) }
     {
         match target {
-            Target::X86_64 => Processor::X86_64(X86_64::new(board, count)),
-            Target::Aarch64 => Processor::Aarch64(Aarch64::new(board, count)),
-            Target::Riscv64 => Processor::Riscv64(Riscv64::new(board, count)),
+            Target::X86_64 => Ok(Processor::X86_64(X86_64::new(
+                DecodeCache::new(alloc, code)?,
+                board,
+                count,
+            ))),
+            Target::Aarch64 => Ok(Processor::Aarch64(Aarch64::new(
+                DecodeCache::new(alloc, code)?,
+                board,
+                count,
+            ))),
+            Target::Riscv64 => Ok(Processor::Riscv64(Riscv64::new(
+                DecodeCache::new(alloc, code)?,
+                board,
+                count,
+            ))),
         }
     }
 
@@ -73,6 +94,7 @@ impl Processor {
     }
 
     /// Takes one step, whether the run is over or not.
+    #[inline(always)]
     pub fn step<O: Sink>(&mut self, out: &mut O) -> CpuStep
         ensures says { StepSays (effect_in (inner self.old)) (inner self.old) (inner self.new)
             (O.taken out.old) (O.taken out.new) (O.faults out.old) (O.faults out.new) result }
@@ -100,6 +122,7 @@ impl Processor {
     }
 
     /// The program counter.
+    #[inline(always)]
     pub fn pc(&self) -> u64
         ensures { result ≡ (inner self.now).state.pc }
     {
@@ -143,8 +166,8 @@ impl Processor {
         ensures { result ≡ (inner self.now).state.flags }
     {
         match self {
-            Processor::X86_64(p) => p.flags,
-            Processor::Aarch64(p) => p.flags,
+            Processor::X86_64(p) => p.flags.get(),
+            Processor::Aarch64(p) => p.flags.get(),
             Processor::Riscv64(_) => Flags::NoFlags,
         }
     }
@@ -157,8 +180,8 @@ impl Processor {
             else inner self.old) }
     {
         match self {
-            Processor::X86_64(p) => p.flags = flags,
-            Processor::Aarch64(p) => p.flags = flags,
+            Processor::X86_64(p) => p.flags.set(flags),
+            Processor::Aarch64(p) => p.flags.set(flags),
             Processor::Riscv64(_) => {}
         }
     }
@@ -180,9 +203,9 @@ impl Processor {
         ensures { inner self.new ≡ record (inner self.old) { fixed = record (inner self.old).fixed { code = code.items } } }
     {
         match self {
-            Processor::X86_64(p) => p.board.code = code,
-            Processor::Aarch64(p) => p.board.code = code,
-            Processor::Riscv64(p) => p.board.code = code,
+            Processor::X86_64(p) => p.code.replace_code(code),
+            Processor::Aarch64(p) => p.code.replace_code(code),
+            Processor::Riscv64(p) => p.code.replace_code(code),
         }
     }
 

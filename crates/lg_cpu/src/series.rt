@@ -26,6 +26,7 @@ pub trait Stepping {
 impl Stepping for X86_64 {
     ghost inner = { λ p. x86_inner p };
 
+    #[inline(always)]
     fn advance<O: Sink>(&mut self, out: &mut O) -> CpuStep {
         self.step(out)
     }
@@ -34,6 +35,7 @@ impl Stepping for X86_64 {
 impl Stepping for Aarch64 {
     ghost inner = { λ p. a64_inner p };
 
+    #[inline(always)]
     fn advance<O: Sink>(&mut self, out: &mut O) -> CpuStep {
         self.step(out)
     }
@@ -42,6 +44,7 @@ impl Stepping for Aarch64 {
 impl Stepping for Riscv64 {
     ghost inner = { λ p. rv_inner p };
 
+    #[inline(always)]
     fn advance<O: Sink>(&mut self, out: &mut O) -> CpuStep {
         self.step(out)
     }
@@ -66,9 +69,10 @@ pub fn advance<P: Stepping, O: Sink>(
         (O.taken out.old) (O.taken out.new) (O.faults out.old) (O.faults out.new) result.answer }
     ensures later { O.faults out.old ≤ O.faults out.new }
 {
-    for went in 0..most {
+    let mut went = 0;
+    while went < most {
         match processor.advance(out) {
-            CpuStep::Went => {}
+            CpuStep::Went => went += 1,
             answer => {
                 return Advanced {
                     answer,

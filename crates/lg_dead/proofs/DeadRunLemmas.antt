@@ -22,7 +22,7 @@ use Rattle.lg_node.proofs.SuccessorLaws.{has_functions}
 use Rattle.lg_node.proofs.WellShaped.{well_shaped}
 use Rattle.lg_meaning.specs.Addresses.{AreAddresses}
 use Rattle.lg_meaning.specs.Fits.{FitsWell}
-use Rattle.lg_meaning.specs.Starts.{start_state}
+use Rattle.lg_meaning.specs.Starts.{IsEntryStack, start_state_at}
 use Rattle.lg_meaning.specs.States.{State, reg, value}
 use Rattle.lg_meaning.specs.Steps.{Outcome, Goes, Ends, Undefined, Text, need, quiet, operand_at, on, on_with_carry, with_reg, operate, binary_step, carry_step, read, address, slot, node_step}
 use Rattle.lg_meaning.specs.Texts.{text, step_at, step}
@@ -284,13 +284,13 @@ module _ (l : LabelledNodes) (shape new_shape : TextShape) (stays : ℕ → Bool
         by (Some n) true f s h = (s, ap leaps_at (stands l stays no_targets i n f s) ∙ h)
         by (Some n) false f s h = let no : false ≡ true = sym (gone-calm i s) ∙ ap leaps_at f ∙ h in cc
 
-    pub dead-dropped : (image args : List ℕ) → RunIsDropped l shape (rewritten l stays no_targets) new_shape (origins stays (length l.nodes)) A image args
-    dead-dropped image args =
-        let start : R (start_state image args) (start_state image args) = (
-          start_state image args,
+    pub dead-dropped : (sp : ℕ) (image args : List ℕ) → IsEntryStack sp → RunIsDropped l shape (rewritten l stays no_targets) new_shape (origins stays (length l.nodes)) A sp image args
+    dead-dropped sp image args stack =
+        let start : R (start_state_at sp image args) (start_state_at sp image args) = (
+          start_state_at sp image args,
           record {
             regs = λ r. None;
-            frame = (start_state image args).frame;
+            frame = (start_state_at sp image args).frame;
             callers = [];
             is = refl;
             holds = λ r e. inr refl;
@@ -301,7 +301,7 @@ module _ (l : LabelledNodes) (shape new_shape : TextShape) (stays : ℕ → Bool
             at = 0;
             bit = carry.Undefined;
             result = None;
-            is = start-over nu (number-zero stays) image args;
+            is = start-over nu (number-zero stays) sp image args;
             lands = sym (number-zero stays);
             carries = inl refl;
             answers = inl refl;
@@ -311,10 +311,10 @@ module _ (l : LabelledNodes) (shape new_shape : TextShape) (stays : ℕ → Bool
             j = _;
             stays = stays;
             to = nu;
-            drops = drops p stays nu Good R (λ s k r. ap (λ (y : State). y.at) r.2.is ∙ r.2.lands ∙ ap nu (same-at s r.0 r.1)) stepped gone-calm (start_state image args) (start_state image args)
-                (mean_fits l shape A is (well_shaped l is.accepted) (has_functions l is.accepted) formed image args) start;
-            memory = drops-look p stays nu Good R (λ s k r. ap (λ (y : State). y.at) r.2.is ∙ r.2.lands ∙ ap nu (same-at s r.0 r.1)) stepped gone-calm (start_state image args) (start_state image args)
-                (mean_fits l shape A is (well_shaped l is.accepted) (has_functions l is.accepted) formed image args) start
+            drops = drops p stays nu Good R (λ s k r. ap (λ (y : State). y.at) r.2.is ∙ r.2.lands ∙ ap nu (same-at s r.0 r.1)) stepped gone-calm (start_state_at sp image args) (start_state_at sp image args)
+                (mean_fits l shape A is (well_shaped l is.accepted) (has_functions l is.accepted) formed sp stack image args) start;
+            memory = drops-look p stays nu Good R (λ s k r. ap (λ (y : State). y.at) r.2.is ∙ r.2.lands ∙ ap nu (same-at s r.0 r.1)) stepped gone-calm (start_state_at sp image args) (start_state_at sp image args)
+                (mean_fits l shape A is (well_shaped l is.accepted) (has_functions l is.accepted) formed sp stack image args) start
                 (λ s k r. ap memory_in r.2.is ∙ ap memory_in r.1.is);
             leaps = leaps-stay;
           },

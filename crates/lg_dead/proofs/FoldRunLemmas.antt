@@ -32,7 +32,7 @@ use Rattle.lg_node.proofs.SuccessorLaws.{has_functions}
 use Rattle.lg_node.proofs.WellShaped.{well_shaped}
 use Rattle.lg_meaning.specs.Fits.{FitsWell, AreLinked}
 use Rattle.lg_meaning.specs.Means.{mean_from}
-use Rattle.lg_meaning.specs.Starts.{start_state}
+use Rattle.lg_meaning.specs.Starts.{IsEntryStack, start_state_at}
 use Rattle.lg_meaning.specs.States.{Frame, State, reg, value}
 use Rattle.lg_meaning.specs.Steps.{Goes, Text, need, quiet, operand_at, on, on_with_carry, with_reg, with_word, operate, branch, binary_step, carry_step, node_step}
 use Rattle.lg_meaning.specs.Texts.{text, step_at, step}
@@ -453,12 +453,12 @@ module _ (l m : LabelledNodes) (shape new_shape : TextShape) (A : List ℕ) (is 
               subst (AreKnown u) (sym (ap (known_before m) at ∙ next-known s.at n.0 n.1 h f))
               (known-on (text l shape A) n.0 s u bytes (known_before m s.at) good.1 (at-form s.at n.0 n.1) h went)
 
-  all-good : (image args : List ℕ) (k : ℕ) → Good (mean_from l shape A (start_state image args) k).state
+  all-good : (sp : ℕ) (image args : List ℕ) → IsEntryStack sp → (k : ℕ) → Good (mean_from l shape A (start_state_at sp image args) k).state
   unfolding known_before
-  all-good image args k = always l shape A Good
+  all-good sp image args stack k = always l shape A Good
       (λ s u bytes good g. (steps_fit l shape A s u bytes is (well_shaped l is.accepted) (has_functions l is.accepted) (at-form s.at) good.0 g, known-step s u bytes good g))
-      (start_state image args)
-      (start_fits_well l shape A is (well_shaped l is.accepted) (has_functions l is.accepted) formed image args, λ r v e. absurd (nothing v e))
+      (start_state_at sp image args)
+      (start_fits_well l shape A is (well_shaped l is.accepted) (has_functions l is.accepted) formed sp stack image args, λ r v e. absurd (nothing v e))
       k
 
   meets : (s k : State) → Good s → Alike stay-put Lands s k → true ≡ true → Meets (Alike stay-put Lands) (step l shape A s) (step m new_shape A k)
@@ -483,13 +483,13 @@ module _ (l m : LabelledNodes) (shape new_shape : TextShape) (A : List ℕ) (is 
       by None f h = cc
       by (Some n) f h = (refl, ap leaps_at (to.nodes i n f) ∙ folded-leaps (known_before m i) n ∙ h)
 
-  pub folded-follow : (image args : List ℕ) → RunIsDropped l shape m new_shape (origins (λ i. true) (length l.nodes)) A image args
-  folded-follow image args =
-      let start : Alike stay-put Lands (start_state image args) (start_state image args) = record {
+  pub folded-follow : (sp : ℕ) (image args : List ℕ) → IsEntryStack sp → RunIsDropped l shape m new_shape (origins (λ i. true) (length l.nodes)) A sp image args
+  folded-follow sp image args stack =
+      let start : Alike stay-put Lands (start_state_at sp image args) (start_state_at sp image args) = record {
         at = 0;
         bit = carry.Undefined;
         result = None;
-        is = start-over stay-put refl image args;
+        is = start-over stay-put refl sp image args;
         lands = refl;
         carries = inl refl;
         answers = inl refl;
@@ -498,8 +498,8 @@ module _ (l m : LabelledNodes) (shape new_shape : TextShape) (A : List ℕ) (is 
           j = _;
           stays = λ i. true;
           to = stay-put;
-          drops = drops p (λ i. true) stay-put Good (Alike stay-put Lands) (λ s k a. ap (λ (x : State). x.at) a.is ∙ a.lands) stepped (λ i e. absurd (never e)) (start_state image args) (start_state image args) (all-good image args) start;
-          memory = drops-look p (λ i. true) stay-put Good (Alike stay-put Lands) (λ s k a. ap (λ (x : State). x.at) a.is ∙ a.lands) stepped (λ i e. absurd (never e)) (start_state image args) (start_state image args) (all-good image args) start
+          drops = drops p (λ i. true) stay-put Good (Alike stay-put Lands) (λ s k a. ap (λ (x : State). x.at) a.is ∙ a.lands) stepped (λ i e. absurd (never e)) (start_state_at sp image args) (start_state_at sp image args) (all-good sp image args stack) start;
+          memory = drops-look p (λ i. true) stay-put Good (Alike stay-put Lands) (λ s k a. ap (λ (x : State). x.at) a.is ∙ a.lands) stepped (λ i e. absurd (never e)) (start_state_at sp image args) (start_state_at sp image args) (all-good sp image args stack) start
               (λ s k a. ap memory_in a.is);
           leaps = leaps-stay;
         },

@@ -14,6 +14,7 @@ use Rattle.lg_dead.specs.Dropping as definitions
 use Rattle.lg_dead.specs.Folds.{IsFoldedNode, IsFoldedTo, ComesFolded}
 use Rattle.lg_dead.specs.Known.{HasNoFolds}
 use Rattle.lg_dead.specs.Dead.{HasNoDeadButMoves}
+use Rattle.lg_meaning.specs.Starts.{IsEntryStack}
 
 -- what may be dropped: definitions, and jumps to labels
 abbrev pub is_droppable : Op → Bool
@@ -67,4 +68,4 @@ pub record AreFinal (l m : LabelledNodes) (shape : TextShape) (origin : List ℕ
 
 -- over addresses of the labels in the new nodes the new run steps with the old one, or rests
 abbrev pub RunsRest : LabelledNodes → TextShape → LabelledNodes → TextShape → Type 0
-RunsRest l shape m new_shape = (size : ℕ) (addresses image args : List ℕ) → AreAddresses m size addresses → AreDropped l shape m new_shape addresses image args
+RunsRest l shape m new_shape = (size : ℕ) (addresses : List ℕ) (sp : ℕ) (image args : List ℕ) → IsEntryStack sp → AreAddresses m size addresses → AreDropped l shape m new_shape addresses sp image args

@@ -7,4 +7,5 @@ pub mod Sentences
 pub mod Stops
 pub mod Twice
 pub mod TwiceMade
+pub mod Unknown
 pub mod Words

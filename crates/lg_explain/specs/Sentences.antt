@@ -13,6 +13,8 @@ use Rattle.lg_op.specs.declared.operand.Reg.{Reg}
 use Rattle.lg_operand.specs.Registers.{register_word}
 use Rattle.lg_explain.specs.Lines.{line_in, shown}
 use Rattle.lg_explain.specs.declared.stop.StuckAt.{StuckAt}
+use Rattle.lg_base.specs.declared.host_name.HostName.{HostName}
+use Rattle.lg_base.specs.declared.host_name.HostName.TheVariants as host
 
 -- the line of a text, behind four spaces
 abbrev pub text_line : (file : List ℕ) (line : ℕ) (text : List ℕ) → List ℕ
@@ -43,10 +45,15 @@ words_of before number behind = row (before ∷ number ∷ behind ∷ [])
 abbrev pub words_of_two : (before first between second behind : List ℕ) → List ℕ
 words_of_two before first between second behind = row (before ∷ first ∷ between ∷ second ∷ behind ∷ [])
 
+-- which arguments a host function allows, to the end of the line: of `printf`, whose arguments after the format are easily passed without an ellipsis
+abbrev pub which_are_allowed : HostName → List ℕ
+which_are_allowed host.Printf = codes ": those after the format come after an ellipsis, one for each conversion\n"
+which_are_allowed name = codes "\n"
+
 -- what is said of a reason, with its values
 abbrev pub sentence_of : Reason → List ℕ
 sentence_of (Unset register) = row (register_word register ∷ codes " is undefined\n" ∷ [])
-sentence_of NoCarry = row (codes "there is no carry of this kind\n" ∷ [])
+sentence_of NoCarry = row (codes "no carry of this kind is left: addc makes one for addx, subc for subx, and all but moves, loads and stores end it\n" ∷ [])
 sentence_of (NoQuotient a b) = words_of_two (codes "0x") (digits_in Hexadecimal a) (codes " cannot be divided by 0x") (digits_in Hexadecimal b) (codes "\n")
 sentence_of (Outside width address) =
     words_of_two (codes "") (digits_in Decimal width) (codes " bytes at 0x") (digits_in Hexadecimal address) (codes " do not lie in one part\n")
@@ -56,9 +63,9 @@ sentence_of (NoLabel word) =
     words_of (codes "0x") (digits_in Hexadecimal word) (codes " is the address of no label of this function that movi, pushargi or reti takes\n")
 sentence_of (NoFunction word) = words_of (codes "0x") (digits_in Hexadecimal word) (codes " is the address of no function\n")
 sentence_of (NoRoom size) = words_of (codes "the stack has no room for a frame of ") (digits_in Decimal size) (codes " bytes\n")
-sentence_of NoResult = row (codes "no call has just returned\n" ∷ [])
+sentence_of NoResult = row (codes "no call with a result has just returned\n" ∷ [])
 sentence_of (NoArgument number) = words_of (codes "argument ") (digits_in Decimal number) (codes ", counted from 0, was not pushed\n")
-sentence_of (NotAllowed name) = row (codes "@" ∷ host_word name ∷ codes " does not allow its arguments\n" ∷ [])
+sentence_of (NotAllowed name) = row (codes "@" ∷ host_word name ∷ codes " does not allow its arguments" ∷ which_are_allowed name ∷ [])
 sentence_of (NoVariable number) = words_of (codes "argument ") (digits_in Decimal number) (codes ", counted from 0, was not pushed\n")
 
 -- the number of the row of the table of undefined steps stands before it

@@ -3,31 +3,34 @@ use Rattle.std.specs.Prelude.{ℕ, Bool, true, false, if◌then◌else◌, List,
 use Rattle.std.specs.Option.{option_map}
 use Rattle.lg_base.specs.declared.refusal.Refusal.{Refusal}
 use Rattle.lg_base.specs.declared.refusal.RefusalKind.{RefusalKind}
-use Rattle.lg_base.specs.declared.refusal.RefusalKind.TheVariants.{LabelTwice, LabelMissing, TargetOutside, BadCall}
+use Rattle.lg_base.specs.declared.refusal.RefusalKind.TheVariants.{UnknownName, LabelTwice, LabelMissing, TargetOutside, BadCall}
 use Rattle.lg_node.specs.declared.unit.Unit.{Unit as TextUnit}
 use Rattle.lg_pre.specs.Expanded.{expanded}
 use Rattle.lg_tst.specs.Units.{unit_of}
 use Rattle.lg_explain.specs.Blames.{word_in}
 use Rattle.lg_explain.specs.Lines.{shown}
 use Rattle.lg_explain.specs.Twice.{made_twice}
+use Rattle.lg_explain.specs.Unknown.{first_unknown}
 
 -- the kinds that are about a word
 abbrev pub names_word : RefusalKind → Bool
+names_word UnknownName = true
 names_word LabelTwice = true
 names_word LabelMissing = true
 names_word TargetOutside = true
 names_word BadCall = true
 names_word kind = false
 
--- of a text that has no unit, the word that is made a second time
-abbrev pub twice_in : RefusalKind → List ℕ → Option (List ℕ)
-twice_in LabelTwice text = made_twice text
-twice_in kind text = None
+-- of a text that has no unit, the first token that begins no statement, or the word that is made a second time
+abbrev pub token_in : RefusalKind → List ℕ → Option (List ℕ)
+token_in UnknownName text = first_unknown text
+token_in LabelTwice text = made_twice text
+token_in kind text = None
 
--- of a text by what it is read as: the word of the label that the nodes give, or the word that is made a second time
+-- of a text by what it is read as: the word of the label that the nodes give, or a word of its tokens
 abbrev pub blamed_as : RefusalKind → List ℕ → Result TextUnit Refusal → Option (List ℕ)
 blamed_as kind text (Ok unit) = word_in kind unit.nodes
-blamed_as kind text (Err fault) = twice_in kind text
+blamed_as kind text (Err fault) = token_in kind text
 
 -- of an expansion
 abbrev pub blamed_by : RefusalKind → Result (List ℕ) Refusal → Option (List ℕ)

@@ -1,14 +1,14 @@
 // What is said of a line.
 
 ghost use Rattle.std.specs.Prelude.{◌≡◌};
-ghost use Rattle.lg_explain.specs.Sentences.{item_words, reason_line, refusal_lines, register_part, register_parts, registers_line, said_line, sentence_line, sentence_of, step_lines, stuck_lines, text_line, where_words, word_line, words_of, words_of_two};
+ghost use Rattle.lg_explain.specs.Sentences.{item_words, reason_line, refusal_lines, register_part, register_parts, registers_line, said_line, sentence_line, sentence_of, step_lines, stuck_lines, text_line, where_words, which_are_allowed, word_line, words_of, words_of_two};
 ghost use Rattle.lg_io.specs.Radixes.{digits_in};
 ghost use Rattle.lg_io.specs.SinkChanges.{WroteTo, on_sink};
 ghost use Rattle.lg_operand.specs.Registers.{register_word};
 
 use crate::line::{Shown, line_in};
 use crate::stop::StuckAt;
-use lg_base::Refusal;
+use lg_base::{HostName, Refusal};
 use lg_io::{Digits, Radix, Sink, SinkFault, write_parts};
 use lg_meaning::reason::Reason;
 use lg_node::Reg;
@@ -200,13 +200,30 @@ fn write_argument<E: Sink>(number: u64, err: &mut E) -> Result<(), SinkFault>
     )
 }
 
+// Which arguments a host function allows, to the end of the line: of `printf`, whose arguments after the format are easily passed without an ellipsis.
+fn which_are_allowed(name: HostName) -> &'static [u8]
+    ensures { result.now ≡ which_are_allowed name }
+{
+    match name {
+        HostName::Printf => {
+            b": those after the format come after an ellipsis, one for each conversion\n"
+        }
+        _ => b"\n",
+    }
+}
+
 // Writes what is said of a reason.
 fn write_sentence_of<E: Sink>(reason: Reason, err: &mut E) -> Result<(), SinkFault>
     ensures { WroteTo (on_sink E.taken E.faults err.old err.new) result (sentence_of reason) }
 {
     match reason {
         Reason::Unset(register) => write_parts(err, &[register_word(register), b" is undefined\n"]),
-        Reason::NoCarry => write_parts(err, &[b"there is no carry of this kind\n"]),
+        Reason::NoCarry => write_parts(
+            err,
+            &[
+                b"no carry of this kind is left: addc makes one for addx, subc for subx, and all but moves, loads and stores end it\n",
+            ],
+        ),
         Reason::NoQuotient { first, second } => write_quotient(first, second, err),
         Reason::Outside { width, address } => write_outside(width, address, err),
         Reason::Unwritten { width, address } => write_unwritten(width, address, err),
@@ -231,11 +248,16 @@ fn write_sentence_of<E: Sink>(reason: Reason, err: &mut E) -> Result<(), SinkFau
             b" bytes\n",
             err,
         ),
-        Reason::NoResult => write_parts(err, &[b"no call has just returned\n"]),
+        Reason::NoResult => write_parts(err, &[b"no call with a result has just returned\n"]),
         Reason::NoArgument(number) => write_argument(u64::from(number), err),
         Reason::NotAllowed(name) => write_parts(
             err,
-            &[b"@", name.word(), b" does not allow its arguments\n"],
+            &[
+                b"@",
+                name.word(),
+                b" does not allow its arguments",
+                which_are_allowed(name),
+            ],
         ),
         Reason::NoVariable(number) => write_argument(number, err),
     }

@@ -18,8 +18,8 @@ use std::alloc::Global;
 
 // ---- what a token does
 
-// The operation that a word names.
-fn op_of(word: &[u8]) -> Option<Op>
+/// The operation that a word names.
+pub fn op_of(word: &[u8]) -> Option<Op>
     ensures { result ≡ op_of word.now }
 {
     Op::by_name(word)
@@ -35,8 +35,8 @@ fn written_forms(op: Op) -> &'static [Form]
     }
 }
 
-// Those of an operation, where there is one.
-fn forms_by(op: Option<Op>) -> &'static [Form]
+/// Those of an operation, where there is one.
+pub fn forms_by(op: Option<Op>) -> &'static [Form]
     ensures { result.now ≡ forms_by op }
 {
     match op {
@@ -186,8 +186,8 @@ fn make_name(
     }
 }
 
-// The bytes of a token.
-fn text_of(text: &[u8], token: Token) -> &[u8]
+/// The bytes of a token.
+pub fn text_of(text: &[u8], token: Token) -> &[u8]
     requires order { token.start < token.end }
     requires within { token.end ≤ length text.now }
     ensures { result.now ≡ text_of text.now token }

@@ -4,7 +4,7 @@ ghost use Rattle.std.specs.Prelude.{◌≡◌, ◌≤◌, length, IfOk};
 ghost use Rattle.std.specs.Option.{option_and_then, option_map};
 ghost use Rattle.lg_explain.specs.Blames.{label_of, word_in, word_of};
 ghost use Rattle.lg_explain.specs.Lines.{shown};
-ghost use Rattle.lg_explain.specs.Words.{blamed_as, blamed_by, names_word, twice_in, word_told};
+ghost use Rattle.lg_explain.specs.Words.{blamed_as, blamed_by, names_word, token_in, word_told};
 ghost use Rattle.lg_pre.specs.Expanded.{expanded};
 ghost use Rattle.lg_tst.specs.Units.{unit_of};
 
@@ -12,6 +12,7 @@ use crate::calls::first_between;
 use crate::line::Shown;
 use crate::targets::{first_astray, first_missing};
 use crate::twice::made_twice;
+use crate::unknown::first_unknown;
 use lg_base::{OutOfMemory, RefusalKind, Stop};
 use lg_node::tables::homes;
 use lg_node::{Label, NodeList};
@@ -63,12 +64,13 @@ fn word_in(alloc: Global, kind: RefusalKind, nodes: &NodeList) -> Result<Option<
 
 // ---- of texts
 
-// The word that a text makes a second time, where a kind is about that.
-fn twice_in(alloc: Global, kind: RefusalKind, text: &[u8]) -> Result<Option<Shown>, OutOfMemory>
+// The word of a text's tokens that a kind blames.
+fn token_in(alloc: Global, kind: RefusalKind, text: &[u8]) -> Result<Option<Shown>, OutOfMemory>
     requires { length text.now ≤ 16777216 }
-    ensures { IfOk result (λ word. word ≡ option_map shown (twice_in kind text.now)) }
+    ensures { IfOk result (λ word. word ≡ option_map shown (token_in kind text.now)) }
 {
     match kind {
+        RefusalKind::UnknownName => Ok(first_unknown(text)),
         RefusalKind::LabelTwice => made_twice(alloc, text),
         _ => Ok(None),
     }
@@ -81,7 +83,7 @@ fn blamed_as(alloc: Global, kind: RefusalKind, text: &[u8]) -> Result<Option<Sho
 {
     match parse(alloc, text) {
         Ok(unit) => word_in(alloc, kind, &unit.nodes),
-        Err(Stop::Refused(_)) => twice_in(alloc, kind, text),
+        Err(Stop::Refused(_)) => token_in(alloc, kind, text),
         Err(Stop::OutOfMemory) => Err(OutOfMemory),
     }
 }
@@ -92,7 +94,7 @@ fn blamed_by(alloc: Global, kind: RefusalKind, read: &[u8]) -> Result<Option<Sho
     ensures { IfOk result (λ word. word ≡ option_map shown (blamed_by kind (expanded read.now))) }
 {
     match expand(alloc, read) {
-        Ok(text) => blamed_as(alloc, kind, text.as_bytes()),
+        Ok(text) => blamed_as(alloc, kind, text.as_slice()),
         Err(Stop::Refused(_)) => Ok(None),
         Err(Stop::OutOfMemory) => Err(OutOfMemory),
     }
@@ -104,7 +106,8 @@ fn names_word(kind: RefusalKind) -> bool
 {
     matches!(
         kind,
-        RefusalKind::LabelTwice
+        RefusalKind::UnknownName
+            | RefusalKind::LabelTwice
             | RefusalKind::LabelMissing
             | RefusalKind::TargetOutside
             | RefusalKind::BadCall

@@ -2,7 +2,7 @@
 use Rattle.std.specs.Prelude.{ℕ, ◌||◌, min, Bool, List, [], ◌++◌, length, take, drop, unwrap_or, is_none, is_ok, Result, Ok, Err, if◌then◌else◌}
 use Rattle.lg_io.specs.Calls.{Calls, fails_next, counted}
 use Rattle.lg_io.specs.NamedTexts.{NamedTexts, text_under}
-use Rattle.lg_io.specs.Readings.{behind_read, behind_select, finds_nothing, unread}
+use Rattle.lg_io.specs.Readings.{behind_read, behind_select, ends_reading, unread}
 use Rattle.lg_io.specs.declared.reading.Reading.{Reading}
 use Rattle.lg_io.specs.declared.texts.TextFault.{TextFault}
 use Rattle.lg_io.specs.declared.texts.TextFault.TheVariants.{Failed}
@@ -48,7 +48,7 @@ after_read texts into =
     record {
       held = texts.held;
       left = drop (read_count texts into) texts.left;
-      reading = behind_read texts.reading (finds_nothing (read_answer texts into));
+      reading = behind_read texts.reading (ends_reading (read_answer texts into));
       calls = counted texts.calls (fails_next texts.calls);
     }
 

@@ -4,7 +4,7 @@ ghost use Rattle.std.specs.Prelude.{◌≡◌, ◌==◌, ◌<◌, ◌≤◌, ℕ
 ghost use Rattle.std.specs.Io.KnownBytes.{ReadConsumes};
 ghost use Rattle.lg_io.specs.Counts.{HasCause};
 ghost use Rattle.lg_io.specs.NamedTexts.{text_under, ReadsSurely, Selects, SelectsSurely};
-ghost use Rattle.lg_io.specs.Readings.{behind_read, behind_select, finds_nothing, unread};
+ghost use Rattle.lg_io.specs.Readings.{behind_read, behind_select, ends_reading, unread};
 ghost use Rattle.lg_io.specs.Rests.{rest_of, IsPlaceOf};
 ghost use Rattle.lg_io.specs.MemoryTexts.{select_answer, after_select, read_answer, read_into, after_read, untouched};
 
@@ -149,7 +149,7 @@ impl Texts for MemoryTexts {
         ensures bound { IfOk result (λ n. n ≤ length into.old) }
         ensures bytes { ReadConsumes (Some self.old.left) (Some self.new.left) result into.new }
         ensures sure { ReadsSurely (length self.old.calls.fail_at == 0) (length self.new.calls.fail_at == 0) result }
-        ensures reading { self.new.reading ≡ behind_read self.old.reading (finds_nothing result) }
+        ensures reading { self.new.reading ≡ behind_read self.old.reading (ends_reading result) }
         ensures cause { HasCause self.old.calls.faults self.new.calls.faults result }
         ensures answer { result ≡ read_answer self.old into.old }
         ensures after { self.new ≡ after_read self.old into.old }
@@ -158,7 +158,7 @@ impl Texts for MemoryTexts {
         let fails = self.calls.fails_next();
         self.calls.count(fails);
         if fails {
-            self.reading.read(false);
+            self.reading.read(true);
             return Err(TextFault::Failed);
         }
         let Some(place) = self.selected else {

@@ -3,15 +3,15 @@
 ghost use Rattle.std.specs.Prelude.{◌≡◌};
 ghost use Rattle.lg_io.specs.Readings.{behind_read, behind_select, unread};
 
-/// How often a text was asked for, and whether the one that is selected was read to its end, and from behind that. Both counts stop at their last number.
+/// How often a text was asked for, whether reading the selected one is over, and how often it was read after that. Both counts stop at their last number.
 #[derive(Clone, Copy)]
 pub struct Reading {
     /// How often a text was asked for, whether it was selected or not.
     pub selects: u64,
-    /// How often the selected text was read behind its end.
+    /// How often a text was read after a read of it that found nothing or failed.
     pub late: u64,
-    /// Whether the end of the selected text was seen: a read found nothing.
-    pub at_end: bool,
+    /// Whether nothing more of the selected text is to be read: a read found nothing or failed.
+    pub is_over: bool,
 }
 
 impl Reading {
@@ -22,7 +22,7 @@ impl Reading {
         Reading {
             selects: 0,
             late: 0,
-            at_end: false,
+            is_over: false,
         }
     }
 
@@ -32,19 +32,19 @@ impl Reading {
     {
         self.selects = self.selects.saturating_add(1);
         if selected {
-            self.at_end = false;
+            self.is_over = false;
         }
     }
 
-    /// The selected text was read, which found nothing or did not.
-    pub fn read(&mut self, nothing: bool)
-        ensures { self.new ≡ behind_read self.old nothing }
+    /// The selected text was read, and that ended reading, since nothing was found or the read failed, or it did not.
+    pub fn read(&mut self, ends: bool)
+        ensures { self.new ≡ behind_read self.old ends }
     {
-        if self.at_end {
+        if self.is_over {
             self.late = self.late.saturating_add(1);
         }
-        if nothing {
-            self.at_end = true;
+        if ends {
+            self.is_over = true;
         }
     }
 }

@@ -5,7 +5,7 @@ ghost use Rattle.std.specs.Str.{bytes_eq};
 ghost use Rattle.std.specs.Io.KnownBytes.{WriteAppends, ReadConsumes};
 ghost use Rattle.lg_io.specs.Counts.{HasCause, next_count};
 ghost use Rattle.lg_io.specs.NamedTexts.{NamedTexts, ReadsSurely, Selects, SelectsSurely};
-ghost use Rattle.lg_io.specs.Readings.{behind_read, behind_select, finds_nothing, unread};
+ghost use Rattle.lg_io.specs.Readings.{behind_read, behind_select, ends_reading, unread};
 ghost use Rattle.lg_io.specs.StandardSinks.{source_under};
 ghost use Rattle.lg_io.specs.StandardSinks.Source.{NoText};
 
@@ -33,7 +33,7 @@ impl<W: Write + Drop> Model for StdSink<W> {
 }
 
 impl<W: Write + Drop> StdSink<W> {
-    /// A sink that writes to the writer, each piece at once.
+    /// A sink that passes each piece to the writer.
     pub fn new(writer: W) -> StdSink<W>
         ensures { result ≡ record { held = W.contents writer; faults = 0 } }
     {
@@ -165,7 +165,7 @@ impl<'a, R: Files + Input> Texts for StdTexts<'a, R> {
         ensures bound { IfOk result (λ n. n ≤ length into.old) }
         ensures bytes { ReadConsumes self.old.left self.new.left result into.new }
         ensures sure { ReadsSurely false false result }
-        ensures reading { self.new.reading ≡ behind_read self.old.reading (finds_nothing result) }
+        ensures reading { self.new.reading ≡ behind_read self.old.reading (ends_reading result) }
         ensures source { self.new.source ≡ self.old.source }
         ensures nothing { self.old.source ≡ NoText → result ≡ Ok 0 }
         ensures cause { HasCause self.old.faults self.new.faults result }
@@ -182,7 +182,7 @@ impl<'a, R: Files + Input> Texts for StdTexts<'a, R> {
                 Ok(count)
             }
             Err(_) => {
-                self.reading.read(false);
+                self.reading.read(true);
                 self.faults = self.faults.saturating_add(1);
                 Err(TextFault::Failed)
             }

@@ -4,7 +4,7 @@ ghost use Rattle.std.specs.Prelude.{◌≡◌, ℕ, ◌≤◌, Bool, List, Optio
 ghost use Rattle.std.specs.Io.KnownBytes.{ReadConsumes};
 ghost use Rattle.lg_io.specs.Counts.{HasCause};
 ghost use Rattle.lg_io.specs.NamedTexts.{NamedTexts, ReadsSurely, Selects, SelectsSurely};
-ghost use Rattle.lg_io.specs.Readings.{behind_read, behind_select, finds_nothing};
+ghost use Rattle.lg_io.specs.Readings.{behind_read, behind_select, ends_reading};
 ghost use Rattle.lg_io.specs.declared.reading.Reading.{Reading};
 
 use thiserror::Error;
@@ -31,7 +31,7 @@ pub trait Texts {
     /// Whether the source is sure: no call of it fails but a select of a name that it does not hold.
     ghost sure: { Self → Bool };
 
-    /// How often a text was asked for, and whether the selected one was read to its end, and from behind that.
+    /// How often a text was asked for, whether reading the selected one is over, and how often it was read after that.
     ghost reading: { Self → Reading };
 
     /// Selects the text of a name, from its first byte on. After a fault what is left is as before.
@@ -50,6 +50,6 @@ pub trait Texts {
         ensures bound { IfOk result (λ n. n ≤ length into.old) }
         ensures bytes { ReadConsumes (left self.old) (left self.new) result into.new }
         ensures sure { ReadsSurely (sure self.old) (sure self.new) result }
-        ensures reading { reading self.new ≡ behind_read (reading self.old) (finds_nothing result) }
+        ensures reading { reading self.new ≡ behind_read (reading self.old) (ends_reading result) }
         ensures cause { HasCause (faults self.old) (faults self.new) result };
 }

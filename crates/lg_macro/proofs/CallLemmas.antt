@@ -1,6 +1,6 @@
 -- Calls and their arguments, piece by piece.
-use Rattle.std.proofs.Common.{◌≡◌, append_assoc, ℕ, suc, ◌+◌, ◌-◌, ◌<◌, ◌≤◌, ◌==◌, ◌&&◌, Bool, true, false, if◌then◌else◌, List, [], ◌∷◌, ◌++◌, length, take, drop, refl, sym, ap, ◌∙◌, arith, add-one, fold, Option, Some, None}
-use Rattle.std.proofs.lemmas.List.{drop_all, drop-take, length-take-le}
+use Rattle.std.proofs.Common.{◌≡◌, append_assoc, ℕ, suc, ◌+◌, ◌-◌, ◌<◌, ◌≤◌, ◌==◌, ◌&&◌, Bool, true, false, if◌then◌else◌, List, [], ◌∷◌, ◌++◌, length, take, drop, refl, sym, ap, ap₂, ◌∙◌, arith, add-one, fold, Option, Some, None}
+use Rattle.std.proofs.lemmas.List.{drop_all, drop-take, length-take-le, take_all}
 use Rattle.std.proofs.Math.Seq.{drop-cons, take-suc}
 use Rattle.std.specs.List.{prefix_len}
 use Rattle.lg_macro.specs.Pieces.{Piece, piece_at, no_piece, is_white, is_byte, between}
@@ -145,3 +145,7 @@ between_solid pieces start end h e1 e2 =
 
 pub append_more : (self new pieces : List Piece) (at end : ℕ) → at < end → end ≤ length pieces → new ≡ self ++ piece_at pieces at ∷ [] → new ++ between (at + 1) end pieces ≡ self ++ between at end pieces
 append_more self new pieces at end h inside e = rw (e, append_assoc, between_cons at end pieces h inside) refl
+
+-- pieces without white space at their ends stay as they are
+pub whole_solid : (pieces : List Piece) (start end : ℕ) → start ≡ 0 → end ≡ length pieces → between start end pieces ≡ stripped pieces → pieces ≡ stripped pieces
+whole_solid pieces start end s e is = sym (ap₂ (λ (a b : ℕ). between a b pieces) s e ∙ take_all (length pieces - 0) pieces (omega arith)) ∙ is

@@ -1,5 +1,5 @@
 -- The body of a macro with arguments in place of its parameters.
-use Rattle.std.specs.Prelude.{ℕ, ◌||◌, if◌then◌else◌, List, [], ◌∷◌, ◌++◌, Option, Some, None, slice_index_or}
+use Rattle.std.specs.Prelude.{ℕ, Bool, false, ◌||◌, if◌then◌else◌, List, [], ◌∷◌, ◌++◌, Option, Some, None, slice_index_or}
 use Rattle.lg_macro.specs.Pieces.{Piece, on_line}
 use Rattle.lg_macro.specs.Pasting.{joined}
 use Rattle.lg_macro.specs.declared.macros.Mark.{Mark}
@@ -22,6 +22,11 @@ filled line (p ∷ body) [] raw full done now = done ++ now
 filled line (p ∷ body) (mark ∷ marks) raw full done now =
     if mark.glued then filled line body marks raw full done (joined line now (stands raw full line p mark))
     else filled line body marks raw full (done ++ now) (stands raw full line p mark)
+
+-- whether ## stands before the first of the pieces that have these marks
+abbrev pub glued_at : List Mark → Bool
+glued_at [] = false
+glued_at (mark ∷ marks) = mark.glued
 
 unfoldable pub substituted : ℕ → List Piece → List Mark → List (List Piece) → List (List Piece) → List Piece
 substituted line body marks raw full = filled line body marks raw full [] []

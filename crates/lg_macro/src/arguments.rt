@@ -98,13 +98,25 @@ fn solid_len(pieces: &Pieces) -> usize
     n
 }
 
+// Pieces without the white space at their ends. They are not copied where none is there.
+pub(crate) fn without_ends(alloc: Global, pieces: Pieces) -> Result<Pieces, OutOfMemory>
+    ensures { IfOk result (λ r. r ≡ stripped pieces) }
+{
+    let end = solid_len(&pieces);
+    let start = white_len(&pieces, end);
+    if start == 0 && end == pieces.len() {
+        return Ok(pieces);
+    }
+    stripped(alloc, &pieces)
+}
+
 /// Pieces without the white space at their ends.
 pub fn stripped(alloc: Global, pieces: &Pieces) -> Result<Pieces, OutOfMemory>
     ensures { IfOk result (λ r. r ≡ stripped pieces.now) }
 {
     let end = solid_len(pieces);
     let start = white_len(pieces, end);
-    let mut solid = Pieces::new(alloc);
+    let mut solid = Pieces::with_room(alloc, end - start, pieces.size())?;
     solid.append_between(pieces, start, end)?;
     Ok(solid)
 }
@@ -123,14 +135,10 @@ fn white_len(pieces: &Pieces, end: usize) -> usize
 }
 
 // Adds an argument, without the white space at its ends.
-fn push_stripped(
-    done: &mut Vec<Pieces>,
-    alloc: Global,
-    argument: &Pieces,
-) -> Result<(), OutOfMemory>
-    ensures { OnOk result (done.new.items ≡ done.old.items ++ stripped argument.now ∷ []) }
+fn push_stripped(done: &mut Vec<Pieces>, alloc: Global, argument: Pieces) -> Result<(), OutOfMemory>
+    ensures { OnOk result (done.new.items ≡ done.old.items ++ stripped argument ∷ []) }
 {
-    let solid = stripped(alloc, argument)?;
+    let solid = without_ends(alloc, argument)?;
     done.push(solid)?;
     Ok(())
 }
@@ -153,14 +161,14 @@ pub(crate) fn gathered(
     'pieces: for at in from..end {
         let kind = pieces.kind(at);
         if ends(kind, b',', depth) {
-            push_stripped(&mut done, alloc, &now)?;
+            push_stripped(&mut done, alloc, now)?;
             now = Pieces::new(alloc);
         } else {
             depth = depth_behind(depth, kind);
             push_in(&mut now, pieces, at, line)?;
         }
     }
-    push_stripped(&mut done, alloc, &now)?;
+    push_stripped(&mut done, alloc, now)?;
     Ok(done)
 }
 

@@ -43,7 +43,7 @@ fn no_body(alloc: Global) -> Body
 fn place_of(names: &[PlainText], word: &[u8]) -> Option<usize>
     ensures { result ≡ place_of names.now word.now }
 {
-    names.iter().position(|name| word == name.as_bytes())
+    names.iter().position(|name| word == name.as_slice())
 }
 
 // The parameter that a piece is.
@@ -58,7 +58,7 @@ fn parameter_of(names: &[PlainText], pieces: &Pieces, at: usize) -> Option<usize
 }
 
 // Takes a `#`.
-fn take_sign(body: &mut Body, alloc: Global) -> Result<(), OutOfMemory>
+fn take_sign(body: &mut Body) -> Result<(), OutOfMemory>
     ensures { OnOk result (body.new ≡ at_sign body.old) }
 {
     if !body.half {
@@ -70,7 +70,7 @@ fn take_sign(body: &mut Body, alloc: Global) -> Result<(), OutOfMemory>
         return Ok(());
     }
     body.marks.glue_last()?;
-    body.gap = Pieces::new(alloc);
+    body.gap.clear();
     body.glued = true;
     body.half = false;
     Ok(())
@@ -104,7 +104,6 @@ fn push_plain(marks: &mut Marks, gap: &Pieces) -> Result<(), OutOfMemory>
 // Takes another piece.
 fn take_solid(
     body: &mut Body,
-    alloc: Global,
     names: &[PlainText],
     pieces: &Pieces,
     at: usize,
@@ -122,7 +121,7 @@ fn take_solid(
         glued,
         glues: false,
     })?;
-    body.gap = Pieces::new(alloc);
+    body.gap.clear();
     body.glued = false;
     Ok(())
 }
@@ -130,7 +129,6 @@ fn take_solid(
 // Takes a piece.
 fn take_piece(
     body: &mut Body,
-    alloc: Global,
     names: &[PlainText],
     pieces: &Pieces,
     at: usize,
@@ -139,7 +137,7 @@ fn take_piece(
     ensures { OnOk result (body.new ≡ with_piece names.now body.old (piece_at pieces.now at)) }
 {
     if pieces.kind(at).is_byte(b'#') {
-        return take_sign(body, alloc);
+        return take_sign(body);
     }
     if body.half {
         body.good = false;
@@ -148,7 +146,7 @@ fn take_piece(
     if pieces.kind(at).is_white() {
         return take_white(body, pieces, at);
     }
-    take_solid(body, alloc, names, pieces, at)
+    take_solid(body, names, pieces, at)
 }
 
 /// The body that pieces make.
@@ -161,7 +159,7 @@ pub(crate) fn body_of(
 {
     let mut body = no_body(alloc);
     'pieces: for at in 0..pieces.len() {
-        take_piece(&mut body, alloc, names, pieces, at)?;
+        take_piece(&mut body, names, pieces, at)?;
     }
     Ok(body)
 }

@@ -8,7 +8,7 @@ ghost use Rattle.lg_macro.specs.Defines.{no_group, closed_at, spaced, spliced, f
 ghost use Rattle.lg_macro.specs.Pieces.{piece_at, between, is_byte};
 ghost use Rattle.std.specs.Prelude.{◌++◌, ◌∷◌};
 
-use crate::arguments::{gathered, stripped};
+use crate::arguments::{gathered, without_ends};
 use crate::body::{Body, body_of, size_of};
 use crate::macros::Macro;
 use crate::pieces::{PieceKind, Pieces};
@@ -74,7 +74,7 @@ pub fn spliced(
     requires inside { end ≤ length pieces.now }
     ensures { IfOk result (λ r. r ≡ spliced (between from end pieces.now)) }
 {
-    let mut out = Pieces::new(alloc);
+    let mut out = Pieces::with_room(alloc, end - from, 64)?;
     'pieces: for at in from..end {
         push_spliced(&mut out, pieces, at, end)?;
     }
@@ -118,7 +118,7 @@ pub fn one_word(alloc: Global, pieces: &Pieces) -> Result<Option<PlainText>, Out
 fn is_among(names: &[PlainText], word: &[u8]) -> bool
     ensures { result ≡ list_any (bytes_eq word.now) names.now }
 {
-    names.iter().any(|name| word == name.as_bytes())
+    names.iter().any(|name| word == name.as_slice())
 }
 
 // The names of parameters, each a word of its own.
@@ -130,7 +130,7 @@ fn names_of(alloc: Global, groups: &[Pieces]) -> Result<Option<Vec<PlainText>>, 
         match one_word(alloc, &groups[i])? {
             None => return Ok(None),
             Some(word) => {
-                if is_among(&names, word.as_bytes()) {
+                if is_among(&names, word.as_slice()) {
                     return Ok(None);
                 }
                 names.push(word)?;
@@ -191,9 +191,9 @@ pub fn stripped_from(alloc: Global, pieces: &Pieces, from: usize) -> Result<Piec
     requires { from ≤ length pieces.now }
     ensures { IfOk result (λ r. r ≡ stripped (drop from pieces.now)) }
 {
-    let mut behind = Pieces::new(alloc);
+    let mut behind = Pieces::with_room(alloc, pieces.len() - from, pieces.size())?;
     behind.append_between(pieces, from, pieces.len())?;
-    stripped(alloc, &behind)
+    without_ends(alloc, behind)
 }
 
 // A macro whose body these pieces are.

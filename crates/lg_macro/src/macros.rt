@@ -121,8 +121,8 @@ impl Table {
     pub fn define(&mut self, entry: Macro) -> Result<(), OutOfMemory>
         ensures { OnOk result (self.new ≡ with_macro self.old entry) }
     {
-        self.undefine(entry.name.as_bytes());
-        let name = Vec::from_slice(self.alloc, entry.name.as_bytes())?;
+        self.undefine(entry.name.as_slice());
+        let name = Vec::from_slice(self.alloc, entry.name.as_slice())?;
         self.add(name, entry)
     }
 }

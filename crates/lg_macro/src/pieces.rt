@@ -1,6 +1,6 @@
 // Pieces of a text, in their order.
 
-ghost use Rattle.std.specs.Prelude.{◌≡◌, ◌≤◌, ◌<◌, [], ◌∷◌, ◌++◌, length, sum_by, OnOk, false};
+ghost use Rattle.std.specs.Prelude.{◌≡◌, ◌≤◌, ◌<◌, [], ◌∷◌, ◌++◌, length, sum_by, OnOk, OnErr, IfOk, false};
 ghost use Rattle.lg_macro.specs.Pieces.{is_byte, is_white, piece_at, froze, on_line, between, text_length};
 
 use lg_base::OutOfMemory;
@@ -92,6 +92,24 @@ impl Pieces {
         }
     }
 
+    /// No pieces, with room for a number of pieces, and for a number of bytes in all of them.
+    pub fn with_room(alloc: Global, pieces: usize, bytes: usize) -> Result<Pieces, OutOfMemory>
+        ensures { IfOk result (λ r. r ≡ []) }
+    {
+        Ok(Pieces {
+            bytes: Vec::with_capacity(alloc, bytes)?,
+            parts: Vec::with_capacity(alloc, pieces)?,
+        })
+    }
+
+    /// Takes all pieces out. The memory stays.
+    pub fn clear(&mut self)
+        ensures { self.new ≡ [] }
+    {
+        self.bytes.clear();
+        self.parts.clear();
+    }
+
     /// How many there are.
     pub fn len(&self) -> usize
         ensures { result ≡ length self.now }
@@ -153,16 +171,36 @@ impl Pieces {
             return Err(OutOfMemory);
         }
         self.parts.reserve(1)?;
-        self.bytes.extend_from_slice(text)?;
+        push_text(&mut self.bytes, text)?;
         let end = self.bytes.as_slice().len();
-        self.parts.push(Part {
+        self.parts.push_reserved(Part {
             kind,
             frozen,
             line,
             start,
             end,
-        })?;
+        });
         Ok(())
+    }
+}
+
+// Appends a text. It is a call of its own, so that a push of one byte saves no registers.
+#[inline(never)]
+fn push_long(bytes: &mut Vec<u8>, text: &[u8]) -> Result<(), OutOfMemory>
+    ensures items { OnOk result (bytes.new.items ≡ bytes.old.items ++ text.now) }
+    ensures err { OnErr result (bytes.new.items ≡ bytes.old.items) }
+{
+    Ok(bytes.extend_from_slice(text)?)
+}
+
+// Appends a text. One byte, which most pieces are, is written at once.
+fn push_text(bytes: &mut Vec<u8>, text: &[u8]) -> Result<(), OutOfMemory>
+    ensures items { OnOk result (bytes.new.items ≡ bytes.old.items ++ text.now) }
+    ensures err { OnErr result (bytes.new.items ≡ bytes.old.items) }
+{
+    match text {
+        [byte] => Ok(bytes.push(*byte)?),
+        _ => push_long(bytes, text),
     }
 }
 

@@ -45,7 +45,7 @@ impl PlainText {
     }
 
     /// The bytes.
-    pub fn as_bytes(&self) -> &[u8]
+    pub fn as_slice(&self) -> &[u8]
         ensures value { result.now ≡ self.now }
         ensures short { length result.now ≤ 16777216 }
     {

@@ -1,18 +1,51 @@
 // The body of a macro with arguments in place of its parameters.
 
-ghost use Rattle.std.specs.Prelude.{◌≡◌, ◌++◌, ◌∷◌, [], ◌<◌, length, OnOk, IfOk};
+ghost use Rattle.std.specs.Prelude.{◌≡◌, ◌+◌, ◌++◌, ◌∷◌, [], ◌<◌, length, drop, OnOk, IfOk};
 ghost use Rattle.lg_macro.specs.Cutting.{cut};
 ghost use Rattle.lg_macro.specs.Pasting.{joined};
 ghost use Rattle.lg_macro.specs.Pieces.{piece_at};
-ghost use Rattle.lg_macro.specs.Substitution.{stands, substituted};
+ghost use Rattle.lg_macro.specs.Substitution.{argument_at, stands, glued_at, filled, substituted};
 
 use crate::cutting::push_cut;
 use crate::macros::{Macro, Mark};
+use crate::marks::Marks;
 use crate::pieces::Pieces;
 use lg_base::OutOfMemory;
 use std::alloc::Global;
 
 // Adds what a piece of a body stands for.
+fn push_part(
+    out: &mut Pieces,
+    raw: &[Pieces],
+    full: &[Pieces],
+    body: &Pieces,
+    at: usize,
+    mark: Mark,
+    line: u32,
+) -> Result<(), OutOfMemory>
+    requires { at < length body.now }
+    ensures { OnOk result (out.new ≡ out.old ++ stands raw.now full.now line (piece_at body.now at) mark) }
+{
+    match mark.parameter {
+        None => out.push_on(body, at, line),
+        Some(n) => {
+            let arguments = if mark.glued || mark.glues { raw } else { full };
+            push_argument(out, arguments, n)
+        }
+    }
+}
+
+// Adds the argument of a number, or nothing where there are fewer.
+fn push_argument(out: &mut Pieces, arguments: &[Pieces], n: usize) -> Result<(), OutOfMemory>
+    ensures { OnOk result (out.new ≡ out.old ++ argument_at arguments.now n) }
+{
+    if n < arguments.len() {
+        return out.append(&arguments[n]);
+    }
+    Ok(())
+}
+
+// What a piece of a body stands for.
 fn stands(
     alloc: Global,
     raw: &[Pieces],
@@ -26,15 +59,7 @@ fn stands(
     ensures { IfOk result (λ r. r ≡ stands raw.now full.now line (piece_at body.now at) mark) }
 {
     let mut part = Pieces::new(alloc);
-    match mark.parameter {
-        None => part.push_on(body, at, line)?,
-        Some(n) => {
-            let arguments = if mark.glued || mark.glues { raw } else { full };
-            if n < arguments.len() {
-                part.append(&arguments[n])?;
-            }
-        }
-    }
+    push_part(&mut part, raw, full, body, at, mark, line)?;
     Ok(part)
 }
 
@@ -94,6 +119,49 @@ fn joined(alloc: Global, now: &Pieces, part: &Pieces, line: u32) -> Result<Piece
     Ok(all)
 }
 
+// Whether `##` is before a piece of a body.
+fn is_glued(marks: &Marks, at: usize) -> bool
+    ensures { result ≡ glued_at (drop at marks.now) }
+{
+    if at < marks.len() {
+        return marks.at(at).glued;
+    }
+    false
+}
+
+// Adds what a piece of a body becomes to what is done, or to what a further `##` may yet change.
+fn fill_one(
+    done: &mut Pieces,
+    now: &mut Pieces,
+    alloc: Global,
+    entry: &Macro,
+    line: u32,
+    raw: &[Pieces],
+    full: &[Pieces],
+    at: usize,
+) -> Result<(), OutOfMemory>
+    requires body { at < length entry.now.body }
+    requires marks { at < length entry.now.marks }
+    ensures { OnOk result (filled line (drop (at + 1) entry.now.body) (drop (at + 1) entry.now.marks) raw.now full.now done.new now.new
+        ≡ filled line (drop at entry.now.body) (drop at entry.now.marks) raw.now full.now done.old now.old) }
+{
+    let _end = entry.marks.len();
+    let mark = entry.marks.at(at);
+    if mark.glued {
+        let part = stands(alloc, raw, full, &entry.body, at, mark, line)?;
+        *now = joined(alloc, now, &part, line)?;
+        return Ok(());
+    }
+    done.append(now)?;
+    now.clear();
+    if is_glued(&entry.marks, at + 1) {
+        push_part(now, raw, full, &entry.body, at, mark, line)?;
+        return Ok(());
+    }
+    push_part(done, raw, full, &entry.body, at, mark, line)?;
+    Ok(())
+}
+
 /// The body of a macro with its arguments, as they stand and expanded.
 #[tactic(auto, unfolding(crate::specs::Substitution::substituted))]
 pub fn substituted(
@@ -105,18 +173,11 @@ pub fn substituted(
 ) -> Result<Pieces, OutOfMemory>
     ensures { IfOk result (λ r. r ≡ substituted line entry.now.body entry.now.marks raw.now full.now) }
 {
-    let mut done = Pieces::new(alloc);
-    let mut now = Pieces::new(alloc);
     let end = entry.body.len().min(entry.marks.len());
+    let mut done = Pieces::with_room(alloc, end, entry.body.size())?;
+    let mut now = Pieces::new(alloc);
     'body: for at in 0..end {
-        let mark = entry.marks.at(at);
-        let part = stands(alloc, raw, full, &entry.body, at, mark, line)?;
-        if mark.glued {
-            now = joined(alloc, &now, &part, line)?;
-        } else {
-            done.append(&now)?;
-            now = part;
-        }
+        fill_one(&mut done, &mut now, alloc, entry, line, raw, full, at)?;
     }
     done.append(&now)?;
     Ok(done)

@@ -22,17 +22,20 @@ module _ (l : LabelledNodes) (shape : TextShape) (A : List ℕ) (start old : Sta
   by_outcome : (o : Outcome) → step l shape A old ≡ o → (answer : MeanStep) (new : State) (out' : Option (List ℕ)) (faults faults' : ℕ) → Steps o line old answer new (Some (before ++ out)) out' faults faults' → answer ≢ mean.WriteFault → IsBehind l shape A start k answer new before out out'
   by_outcome (Goes t bytes) e answer new out' faults faults' (inl x) fine = record {
     bytes = bytes;
+    ending = None;
     stands = next ∙ ap (behind (run_at old out)) e ∙ rw (x.0, x.1) refl;
     written = grown out' (before ++ out) bytes x.2 ∙ ap Some (append_assoc before out bytes);
   }
   by_outcome (Goes t bytes) e answer new out' faults faults' (inr x) fine = absurd (fine x.0)
-  by_outcome (Ends status) e answer new out' faults faults' x fine = record {
+  by_outcome (Ends x') e answer new out' faults faults' x fine = record {
     bytes = [];
+    ending = Some x';
     stands = next ∙ ap (behind (run_at old out)) e ∙ rw (x.0, x.1, append-nil out) refl;
     written = grown out' (before ++ out) [] x.2 ∙ ap Some (append_assoc before out []);
   }
   by_outcome Undefined e answer new out' faults faults' x fine = record {
     bytes = [];
+    ending = None;
     stands = next ∙ ap (behind (run_at old out)) e ∙ rw (x.0, x.1, append-nil out) refl;
     written = grown out' (before ++ out) [] x.2 ∙ ap Some (append_assoc before out []);
   }

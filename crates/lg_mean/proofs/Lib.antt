@@ -6,6 +6,7 @@ pub mod HostLemmas
 pub mod KnownLemmas
 pub mod LandingLemmas
 pub mod ReadLemmas
+pub mod ResolvedLemmas
 pub mod RunLemmas
 pub mod StepLemmas
 pub mod SuitLemmas

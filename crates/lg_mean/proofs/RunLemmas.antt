@@ -43,7 +43,7 @@ module _ (runs : ℕ → Run) (k : ℕ) (line : State → ℕ) (old : State) (by
   by_outcome (Goes t more) next answer new faults faults' (inl x) = rw (x.0, x.1) record { bytes = bytes ++ more; stands = next; written = Appends-trans out mid out' bytes more written x.2 }
   by_outcome (Goes t more) next answer new faults faults' (inr x) = rw (x.0, x.1)
       record { bytes = bytes; stands = stands; next = t; more = more; goes = next; part = x.2.0; short = x.2.1; written = Appends-trans out mid out' bytes (take x.2.0 more) written x.2.2; rose = x.3 }
-  by_outcome (Ends status) next answer new faults faults' x = rw (x.0, x.1) (stays_there x.2, next ∙ ap (λ (r : Run). behind r (Ends status)) (sym stands))
+  by_outcome (Ends e) next answer new faults faults' x = rw (x.0, x.1) (stays_there x.2, (e, refl, next ∙ ap (λ (r : Run). behind r (Ends e)) (sym stands)))
   by_outcome Undefined next answer new faults faults' x = rw (x.0, x.1) (stays_there x.2, next ∙ ap (λ (r : Run). behind r Undefined) (sym stands), refl)
 
 -- where a run goes on after k steps, the next step of a machine that has not answered its last says

@@ -4,6 +4,7 @@ use Rattle.lg_base.specs.Runs.{Status, Running, Ended, Bad}
 use Rattle.lg_node.specs.Nodes.{LabelledNodes}
 use Rattle.lg_node.specs.Shapes.{TextShape}
 use Rattle.lg_meaning.specs.States.{State}
+use Rattle.lg_meaning.specs.Steps.{Ending}
 use Rattle.lg_meaning.specs.Texts.{step}
 use Rattle.lg_meaning.specs.Means.{run_at, mean_from}
 use Rattle.lg_mean.specs.declared.mean_step.MeanStep.{MeanStep}
@@ -21,7 +22,8 @@ status_behind mean.WriteFault = Running
 pub record IsBehind (l : LabelledNodes) (shape : TextShape) (addresses : List ℕ) (start : State) (k : ℕ) (answer : MeanStep) (new : State)
     (before out : List ℕ) (out' : Option (List ℕ)) : Type 0 where
   pub bytes : List ℕ
-  pub stands : mean_from l shape addresses start (k + 1) ≡ record { status = status_behind answer; state = new; out = out ++ bytes }
+  pub ending : Option Ending
+  pub stands : mean_from l shape addresses start (k + 1) ≡ record { status = status_behind answer; state = new; out = out ++ bytes; ending = ending }
   pub written : out' ≡ Some (before ++ (out ++ bytes))
 
 -- where a machine stands as the meaning does after k steps, and a step of it meets no fault of its sink, it stands behind that step as the

@@ -1,19 +1,23 @@
 -- A text with its shape, the addresses of its labels, and tables in which its steps look up where words lead.
-use Rattle.std.specs.Prelude.{◌≡◌, ℕ, ◌&&◌, Bool, false, nat_eq, nat_lt, if◌then◌else◌, Option, Some, None, List, length, slice_index_or}
+use Rattle.std.specs.Prelude.{◌≡◌, ℕ, ◌&&◌, Bool, false, nat_eq, nat_lt, if◌then◌else◌, Option, Some, None, List, length, slice_get, slice_index_or}
 use Rattle.std.specs.Map.{lookup}
+use Rattle.lg_op.specs.declared.node.Node.{Node}
 use Rattle.lg_node.specs.declared.function.Function.{Function}
 use Rattle.lg_node.specs.Nodes.{LabelledNodes}
 use Rattle.lg_node.specs.Functions.{IsFunction}
 use Rattle.lg_node.specs.Shapes.{TextShape, IsShapeOf}
 use Rattle.lg_meaning.specs.Steps.{Text, last_landing, function_here, is_behind, is_entry_label}
 use Rattle.lg_meaning.specs.Texts.{text}
+use Rattle.lg_mean.specs.declared.resolved.ResolvedNode.{ResolvedNode}
+use Rattle.lg_mean.specs.Resolved.{IsResolved}
 
--- the address of each label; the nodes to which `jmpr` goes, by the node of the function's `prolog` and the address; and the nodes to
--- which a call of an address goes
+-- the address of each label; the nodes to which `jmpr` goes, by the node of the function's `prolog` and the address; the nodes to
+-- which a call of an address goes; and each node with its operands looked up
 pub record LabelTable : Type 0 where
   pub addresses : List ℕ
   pub jumps : List ((ℕ × ℕ) × ℕ)
   pub calls : List (ℕ × ℕ)
+  pub resolved : List ResolvedNode
 
 pub record KnownText : Type 0 where
   pub nodes : LabelledNodes
@@ -44,11 +48,17 @@ pub record LeadsAmong (l : LabelledNodes) (t : Text) (jumps : List ((ℕ × ℕ)
   pub jumped : (f : Function) → IsFunction l.nodes f → (w : ℕ) → lookup (pair_eq (f.entry, w)) jumps ≡ jump_in t f w labels
   pub called : (w : ℕ) → lookup (nat_eq w) calls ≡ call_among t w labels
 
+-- each node is looked up
+pub record AreResolved (nodes : List Node) (t : Text) (resolved : List ResolvedNode) : Type 0 where
+  pub as_many : length resolved ≡ length nodes
+  pub each : (i : ℕ) (n : Node) (q : ResolvedNode) → slice_get nodes i ≡ Some n → slice_get resolved i ≡ Some q → IsResolved t n q
+
 -- the tables are those of accepted nodes with their shape and the addresses of their labels
 pub record IsTableOf (l : LabelledNodes) (shape : TextShape) (labels : LabelTable) : Type 0 where
   pub shaped : IsShapeOf l shape
   pub same : length labels.addresses ≡ length l.words
   pub leads : LeadsAmong l (text l shape labels.addresses) labels.jumps labels.calls (length l.places)
+  pub resolved : AreResolved l.nodes (text l shape labels.addresses) labels.resolved
 
 -- ---- how a label gets into them
 -- the `prolog` of a function to whose node a label is bound behind it

@@ -5,6 +5,7 @@ use Rattle.lg_base.specs.Runs.{Ended, Bad}
 use Rattle.lg_io.specs.Counts.{Rose}
 use Rattle.lg_meaning.specs.States.{State}
 use Rattle.lg_meaning.specs.Means.{Run, run_at}
+use Rattle.lg_meaning.specs.Steps.{Ending, ending_status}
 use Rattle.lg_mean.specs.declared.mean_step.MeanStep.{MeanStep}
 use Rattle.lg_mean.specs.declared.mean_step.MeanStep.TheVariants as mean
 use Rattle.lg_mean.specs.declared.run.RunEnd.{RunEnd}
@@ -31,7 +32,7 @@ pub record FailsToWrite (meaning : ℕ → Run) (n : ℕ) (s : State) (out out' 
 
 -- the step behind the first n ends the meaning with a status; it writes nothing, and the state stays
 abbrev pub EndsBehind : (ℕ → Run) → ℕ → ℕ → Type 0
-EndsBehind meaning n status = meaning (n + 1) ≡ record (meaning n) { status = Ended status }
+EndsBehind meaning n status = (e : Ending) × (ending_status e ≡ status) × (meaning (n + 1) ≡ record (meaning n) { status = Ended status; ending = Some e })
 
 -- the step behind the first n is undefined
 abbrev pub IsUndefinedBehind : (ℕ → Run) → ℕ → Type 0

@@ -18,7 +18,7 @@ use Rattle.lg_meaning.specs.declared.reason.Called.TheVariants.{OfHost, OfText}
 use Rattle.lg_meaning.specs.declared.reason.Reason.{Reason}
 use Rattle.lg_meaning.specs.declared.reason.Reason.TheVariants.{NotAllowed}
 use Rattle.lg_meaning.specs.States.{Frame, State}
-use Rattle.lg_meaning.specs.Steps.{Outcome, Goes, Ends, Undefined, operand_at, function_here}
+use Rattle.lg_meaning.specs.Steps.{ending_status, Outcome, Goes, Ends, Undefined, operand_at, function_here}
 use Rattle.lg_mean.specs.declared.mean_step.MeanStep.{MeanStep}
 use Rattle.lg_mean.specs.declared.mean_step.MeanStep.TheVariants as mean
 
@@ -31,7 +31,7 @@ Does Undefined old went new = (went ≡ false) × (new ≡ old)
 -- the answer and the new state of a return
 abbrev pub Returns : Outcome → State → Option ℕ → State → Type 0
 Returns (Goes t bytes) old ended new = (ended ≡ None) × (new ≡ t) × (bytes ≡ [])
-Returns (Ends n) old ended new = (ended ≡ Some n) × (new ≡ old)
+Returns (Ends e) old ended new = (ended ≡ Some (ending_status e)) × (new ≡ old)
 Returns Undefined old ended new = ⊥
 
 -- the top frame and its locals are gone, where there was another one
@@ -45,7 +45,7 @@ abbrev pub Steps : Outcome → ℕ → State → MeanStep → State → (out out
 Steps (Goes t bytes) line old answer new out out' faults faults' =
     ((answer ≡ mean.Went) × (new ≡ t) × Appends out out' bytes)
     ⊎ ((answer ≡ mean.WriteFault) × (new ≡ old) × AppendsPrefix out out' bytes × Rose faults faults')
-Steps (Ends n) line old answer new out out' faults faults' = (answer ≡ mean.Ended n) × (new ≡ old) × Appends out out' []
+Steps (Ends e) line old answer new out out' faults faults' = (answer ≡ mean.Ended (ending_status e)) × (new ≡ old) × Appends out out' []
 Steps Undefined line old answer new out out' faults faults' = (answer ≡ mean.Undefined line) × (new ≡ old) × Appends out out' []
 
 -- the sink's count of faults stays, but where a write failed
@@ -56,7 +56,7 @@ KeepsCount answer faults faults' = faults' ≡ faults
 -- the same for a step that writes nothing
 abbrev pub Quiet : Outcome → ℕ → State → MeanStep → State → Type 0
 Quiet (Goes t bytes) line old answer new = (answer ≡ mean.Went) × (new ≡ t) × (bytes ≡ [])
-Quiet (Ends n) line old answer new = (answer ≡ mean.Ended n) × (new ≡ old)
+Quiet (Ends e) line old answer new = (answer ≡ mean.Ended (ending_status e)) × (new ≡ old)
 Quiet Undefined line old answer new = (answer ≡ mean.Undefined line) × (new ≡ old)
 
 abbrev pub answer_of : Bool → ℕ → MeanStep

@@ -53,6 +53,7 @@ impl Machine {
     }
 
     // The number in so many bytes at an address, where each lies in a part and was written.
+    #[inline(always)]
     fn number(&self, address: u64, width: u32) -> Option<u64>
         requires { width ≤ 8 }
         ensures { result ≡ (if writable (is_open (state_of self.now)) address width then loaded (state_of self.now).mem address width else None) }
@@ -61,10 +62,17 @@ impl Machine {
     }
 
     // The number that a type reads at an address.
-    fn read(&self, value_type: ValueType, address: u64) -> Option<u64>
+    #[inline(always)]
+    pub(crate) fn read(&self, value_type: ValueType, address: u64) -> Option<u64>
         ensures { result ≡ read (state_of self.now) address (width value_type) }
     {
-        self.number(address, operators::width(value_type))
+        // a width in each arm, so that its bytes are read at once
+        match value_type {
+            ValueType::Char | ValueType::UnsignedChar => self.number(address, 1),
+            ValueType::Short | ValueType::UnsignedShort => self.number(address, 2),
+            ValueType::Int | ValueType::UnsignedInt => self.number(address, 4),
+            ValueType::Long => self.number(address, 8),
+        }
     }
 
     // O1 = what stands at an address.
@@ -99,34 +107,33 @@ impl Machine {
         }
     }
 
-    // Whether so many bytes at an address can be written.
-    fn can_write(&self, store_type: StoreType, address: u64) -> bool
-        ensures value { result ≡ writable (is_open (state_of self.now)) address (store_width store_type) }
-        ensures end { IsTrue result → address + store_width store_type ≤ 2 ^ 64 }
+    // Writes the low bytes of a word at an address, if each can be written. Returns false if not, and then nothing changes.
+    #[inline(always)]
+    fn put(&mut self, store_type: StoreType, address: u64, word: u64) -> bool
+        ensures done { result ≡ writable (is_open (state_of self.old)) address (store_width store_type) }
+        ensures bytes { state_of self.new ≡ (if result then record (state_of self.old) {
+          mem = stored (state_of self.old).mem address
+              (store_width store_type) word;
+        } else state_of self.old) }
     {
-        self.memory
-            .can_store(address, operators::store_width(store_type))
-    }
-
-    // Writes bytes that can be written.
-    fn write(&mut self, store_type: StoreType, address: u64, word: u64)
-        requires room { IsTrue (writable (is_open (state_of self.old)) address (store_width store_type)) }
-        requires end { address + store_width store_type ≤ 2 ^ 64 }
-        ensures { state_of self.new ≡ record (state_of self.old) { mem = stored (state_of self.old).mem address (store_width store_type) word } }
-    {
-        let width = operators::store_width(store_type);
-        self.memory.store(address, width, word);
+        // a width in each arm, so that its bytes are written at once
+        match store_type {
+            StoreType::Char => self.memory.put_word(address, 1, word),
+            StoreType::Short => self.memory.put_word(address, 2, word),
+            StoreType::Int => self.memory.put_word(address, 4, word),
+            StoreType::Long => self.memory.put_word(address, 8, word),
+        }
     }
 
     // The low bytes of a word go to an address.
-    fn store_to(&mut self, store_type: StoreType, address: u64, word: u64) -> bool
+    #[inline(always)]
+    pub(crate) fn store_to(&mut self, store_type: StoreType, address: u64, word: u64) -> bool
         requires { self.old.at < 2 ^ 32 - 1 }
         ensures { Does (store_to (state_of self.old) store_type address word) (state_of self.old) result (state_of self.new) }
     {
-        if !self.can_write(store_type, address) {
+        if !self.put(store_type, address, word) {
             return false;
         }
-        self.write(store_type, address, word);
         self.go_on_with_carry();
         true
     }

@@ -7,22 +7,24 @@ ghost use Rattle.lg_node.specs.Shapes.{IsShapeOf};
 ghost use Rattle.lg_node.specs.declared.place.Place.TheVariants as place;
 ghost use Rattle.lg_meaning.specs.Steps.{later, begins, function_here};
 ghost use Rattle.lg_meaning.specs.Texts.{text};
-ghost use Rattle.lg_mean.specs.Programs.{pair_eq, is_jump_key, jump_entry, entry_behind, LeadsAmong, IsTableOf};
+ghost use Rattle.lg_mean.specs.Programs.{pair_eq, is_jump_key, jump_entry, entry_behind, LeadsAmong, AreResolved, IsTableOf};
 
 use crate::functions::{begins, function_here};
+use crate::resolved::{ResolvedNode, resolved};
 use indexmap::IndexMap;
 use lg_base::OutOfMemory;
-use lg_node::laws::accepted_nodes_have_functions;
+use lg_node::laws::{accepted_nodes_are_well_shaped, accepted_nodes_have_functions};
 use lg_node::{Function, Label, LabelAddresses, NodeList, Place, Shape};
 use std::alloc::Global;
 use std::marker::Model;
 
-/// The addresses of a text's labels, and the nodes to which they lead.
+/// The addresses of a text's labels, the nodes to which they lead, and each node with its operands looked up.
 #[derive(Drop)]
 pub(crate) struct Labels {
     addresses: LabelAddresses,
     jumps: IndexMap<(u32, u64), u32>,
     calls: IndexMap<u64, u32>,
+    resolved: Vec<ResolvedNode>,
 }
 
 impl Model for Labels {
@@ -30,7 +32,7 @@ impl Model for Labels {
 
     ghost Value = { LabelTable };
 
-    ghost view = { λ l. record { addresses = l.addresses; jumps = l.jumps.entries; calls = l.calls.entries } };
+    ghost view = { λ l. record { addresses = l.addresses; jumps = l.jumps.entries; calls = l.calls.entries; resolved = l.resolved.items } };
 }
 
 // The later of a node and one that may be there.
@@ -179,6 +181,27 @@ impl Tables {
     }
 }
 
+// Each node of accepted ones with its operands looked up.
+fn resolved_nodes(
+    alloc: Global,
+    nodes: &NodeList,
+    shape: &Shape,
+    addresses: &[u64],
+) -> Result<Vec<ResolvedNode>, OutOfMemory>
+    requires shape { IsShapeOf nodes.now shape.now }
+    requires same { length addresses.now ≡ length nodes.now.words }
+    ensures { IfOk result (λ v. AreResolved nodes.now.nodes (text nodes.now shape.now addresses.now) v.items) }
+{
+    accepted_nodes_are_well_shaped();
+    nodes.what_holds();
+    let mut found = Vec::with_capacity(alloc, nodes.len() as usize)?;
+    for index in 0..nodes.len() {
+        let node = resolved(nodes.node_at(index), nodes, addresses);
+        found.push_reserved(node);
+    }
+    Ok(found)
+}
+
 impl Labels {
     /// The labels of accepted nodes with their shape, and with an address for each label.
     pub(crate) fn of(
@@ -194,10 +217,12 @@ impl Labels {
     {
         let addresses = LabelAddresses::of(alloc, addresses.as_slice())?;
         let tables = Tables::of(alloc, nodes, shape, addresses.as_slice())?;
+        let resolved = resolved_nodes(alloc, nodes, shape, addresses.as_slice())?;
         Ok(Labels {
             addresses,
             jumps: tables.jumps,
             calls: tables.calls,
+            resolved,
         })
     }
 
@@ -213,6 +238,15 @@ impl Labels {
         ensures { result ≡ lookup (pair_eq (entry, word)) self.now.jumps }
     {
         self.jumps.get(&(entry, word)).copied()
+    }
+
+    // A node with its operands looked up.
+    #[inline(always)]
+    pub(crate) fn node(&self, index: u32) -> &ResolvedNode
+        requires { index < length self.now.resolved }
+        ensures { Some result.now ≡ slice_get self.now.resolved index }
+    {
+        &self.resolved[index as usize]
     }
 
     // The node to which a call of a word goes.

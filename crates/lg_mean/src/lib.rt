@@ -14,6 +14,8 @@ mod machine;
 pub mod mean_step;
 pub mod portable;
 mod program;
+mod resolved;
+mod resolved_step;
 pub mod run;
 mod start;
 mod step;

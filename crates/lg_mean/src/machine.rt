@@ -44,7 +44,7 @@ impl Model for Machine {
 }
 
 // The number of a register.
-fn number_of(reg: Reg) -> usize
+pub(crate) fn number_of(reg: Reg) -> usize
     ensures value { result ≡ number_of reg }
     ensures bound { result < 7 }
 {
@@ -70,15 +70,13 @@ fn named(operand: Operand) -> usize
     }
 }
 
-// An operand of a node.
+// An operand of a node. After the last one it is the number 0.
+#[inline]
 pub(crate) fn operand(node: &Node, index: usize) -> Operand
+    requires { index < 4 }
     ensures { result ≡ operand_at node.now index }
 {
-    node.operands
-        .as_slice()
-        .get(index)
-        .copied()
-        .unwrap_or(Operand::Number(0))
+    *node.operands.at(index)
 }
 
 // The number of the `arg` or `allocai` that an operand names.
@@ -157,6 +155,7 @@ impl Machine {
     }
 
     // Sets the carry.
+    #[inline(always)]
     pub(crate) fn set_carry(&mut self, carry: Carry)
         ensures { state_of self.new ≡ record (state_of self.old) { carry = carry } }
     {
@@ -164,6 +163,7 @@ impl Machine {
     }
 
     // Goes to a node.
+    #[inline(always)]
     pub(crate) fn go_to(&mut self, node: u32)
         ensures { state_of self.new ≡ to (state_of self.old) node }
     {
@@ -173,6 +173,7 @@ impl Machine {
     }
 
     // Goes to the next node.
+    #[inline(always)]
     pub(crate) fn go_on(&mut self)
         requires { self.old.at < 2 ^ 32 - 1 }
         ensures { state_of self.new ≡ on (state_of self.old) }
@@ -183,6 +184,7 @@ impl Machine {
     }
 
     // Goes to the next node, with the carry as it is.
+    #[inline(always)]
     pub(crate) fn go_on_with_carry(&mut self)
         requires { self.old.at < 2 ^ 32 - 1 }
         ensures { state_of self.new ≡ on_with_carry (state_of self.old) }

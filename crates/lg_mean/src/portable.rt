@@ -48,8 +48,8 @@ impl Model for Portable {
 impl Portable {
     /// The state at the start of the run of an accepted text with its shape: the first node comes next, nothing is defined, and memory
     /// holds the data part and the argument part. There is an address for each label; the data part has at most 16,777,216 bytes and the
-    /// argument part at most 1,048,576. It takes the memory of the whole run: the parts, room for 3,855 frames, and tables of where words
-    /// lead that are addresses of labels.
+    /// argument part at most 1,048,576. It takes the memory of the whole run: the parts, room for 3,855 frames, tables of where words
+    /// lead that are addresses of labels, and each node with its operands looked up.
     pub fn new(
         alloc: Global,
         unit: &Unit,
@@ -84,7 +84,63 @@ impl Portable {
     /// undefined, with the line of its node; `WriteFault` only where the count of faults of `out` rose, and then a part of the step's
     /// bytes may have been written, from the first one on. After an answer other than `Went` it answers the same and changes nothing.
     /// Fewer than 2^64 - 1 steps went or ended before.
+    #[inline(always)]
     pub fn step<O: Sink>(&mut self, unit: &Unit, shape: &Shape, out: &mut O) -> MeanStep
+        requires made { IsTableOf unit.now.nodes shape.now self.old.labels }
+        requires fits { Fits unit.now.nodes shape.now (state_of self.old.machine) }
+        requires count { self.old.steps < 2 ^ 64 - 1 }
+        ensures again { IfSome self.old.over (λ answer. (result ≡ answer) × (self.new ≡ self.old) × Appends (O.taken out.old) (O.taken out.new) []
+            × (O.faults out.new ≡ O.faults out.old)) }
+        ensures says { IfNone self.old.over (Steps (step unit.now.nodes shape.now self.old.labels.addresses (state_of self.old.machine))
+            (line_at unit.now.nodes (state_of self.old.machine)) (state_of self.old.machine) result (state_of self.new.machine) (O.taken out.old)
+            (O.taken out.new) (O.faults out.old) (O.faults out.new)) }
+        ensures fits { Fits unit.now.nodes shape.now (state_of self.new.machine) }
+        ensures over { IfNone self.old.over (self.new.over ≡ over_of result) }
+        ensures steps { IfNone self.old.over (self.new.steps ≡ self.old.steps + counts result) }
+        ensures labels { self.new.labels ≡ self.old.labels }
+        ensures later { O.faults out.old ≤ O.faults out.new }
+        ensures kept { KeepsCount result (O.faults out.old) (O.faults out.new) }
+    {
+        if let Some(answer) = self.over {
+            return answer;
+        }
+        self.go(unit, shape, out)
+    }
+
+    // One step of a machine that is not over: by the node with its operands looked up where that goes, else by the node.
+    #[inline(always)]
+    pub(crate) fn go<O: Sink>(&mut self, unit: &Unit, shape: &Shape, out: &mut O) -> MeanStep
+        requires made { IsTableOf unit.now.nodes shape.now self.old.labels }
+        requires fits { Fits unit.now.nodes shape.now (state_of self.old.machine) }
+        requires count { self.old.steps < 2 ^ 64 - 1 }
+        requires running { self.old.over ≡ None }
+        ensures again { IfSome self.old.over (λ answer. (result ≡ answer) × (self.new ≡ self.old) × Appends (O.taken out.old) (O.taken out.new) []
+            × (O.faults out.new ≡ O.faults out.old)) }
+        ensures says { IfNone self.old.over (Steps (step unit.now.nodes shape.now self.old.labels.addresses (state_of self.old.machine))
+            (line_at unit.now.nodes (state_of self.old.machine)) (state_of self.old.machine) result (state_of self.new.machine) (O.taken out.old)
+            (O.taken out.new) (O.faults out.old) (O.faults out.new)) }
+        ensures fits { Fits unit.now.nodes shape.now (state_of self.new.machine) }
+        ensures over { IfNone self.old.over (self.new.over ≡ over_of result) }
+        ensures steps { IfNone self.old.over (self.new.steps ≡ self.old.steps + counts result) }
+        ensures labels { self.new.labels ≡ self.old.labels }
+        ensures later { O.faults out.old ≤ O.faults out.new }
+        ensures kept { KeepsCount result (O.faults out.old) (O.faults out.new) }
+    {
+        accepted_nodes_are_well_shaped();
+        steps_keep_the_fit();
+        unit.nodes.what_holds();
+        let _ = unit.nodes.node_at(self.machine.place());
+        let node = self.labels.node(self.machine.place());
+        if self.machine.step_resolved(node) {
+            self.steps += 1;
+            return MeanStep::Went;
+        }
+        self.step_by_node(unit, shape, out)
+    }
+
+    // One step by the node that comes next.
+    #[inline(never)]
+    fn step_by_node<O: Sink>(&mut self, unit: &Unit, shape: &Shape, out: &mut O) -> MeanStep
         requires made { IsTableOf unit.now.nodes shape.now self.old.labels }
         requires fits { Fits unit.now.nodes shape.now (state_of self.old.machine) }
         requires count { self.old.steps < 2 ^ 64 - 1 }
@@ -107,9 +163,9 @@ impl Portable {
         steps_keep_the_fit();
         unit.nodes.what_holds();
         let _ = self.machine.pushed();
-        let node = unit.nodes.node(self.machine.place());
+        let node = unit.nodes.node_at(self.machine.place());
         let program = Program::new(&unit.nodes, shape, &self.labels);
-        let answer = self.machine.step_node(&node, &program, out);
+        let answer = self.machine.step_node(node, &program, out);
         self.over = over_of(answer);
         self.steps += counts(answer);
         answer
@@ -133,9 +189,9 @@ impl Portable {
     {
         accepted_nodes_are_well_shaped();
         unit.nodes.what_holds();
-        let node = unit.nodes.node(self.machine.place());
+        let node = unit.nodes.node_at(self.machine.place());
         let program = Program::new(&unit.nodes, shape, &self.labels);
-        self.machine.why(&node, &program)
+        self.machine.why(node, &program)
     }
 
     /// What a register holds, where it is defined.

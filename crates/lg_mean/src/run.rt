@@ -54,7 +54,7 @@ impl Portable {
     {
         steps_are_those_of_the_meaning();
         for _turn in 0..most {
-            match self.step(unit, shape, out) {
+            match self.go(unit, shape, out) {
                 MeanStep::Went => {}
                 MeanStep::Ended(status) => return RunEnd::Ended(status),
                 MeanStep::Undefined { line } => return RunEnd::Undefined { line },

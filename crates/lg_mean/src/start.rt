@@ -2,6 +2,7 @@
 
 ghost use Rattle.std.specs.Prelude.{◌≡◌, ◌≤◌, length, IfOk};
 ghost use Rattle.lg_base.specs.Arguments.{argument_count, most_args};
+ghost use Rattle.lg_base.specs.Layout.{stack_end};
 ghost use Rattle.lg_meaning.specs.Starts.{start_state, start_frame};
 ghost use Rattle.lg_mean.specs.Machines.{state_of, frame_in};
 
@@ -25,7 +26,7 @@ const STACK_END: u64 = 0x4000_0000;
 
 // The frame of the entry, whose arguments are the number of strings of the argument part and the address of their pointers.
 fn entry_frame(count: u64) -> KeptFrame
-    ensures { frame_in result ≡ start_frame count }
+    ensures { frame_in result ≡ start_frame stack_end count }
 {
     KeptFrame {
         sp: STACK_END,

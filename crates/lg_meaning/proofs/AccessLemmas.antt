@@ -9,17 +9,17 @@ use Rattle.lg_node.specs.Nodes.{LabelledNodes}
 use Rattle.lg_node.specs.Functions.{home}
 use Rattle.lg_node.specs.Shapes.{TextShape}
 use Rattle.lg_meaning.specs.States.{Frame, State, in_locals, in_any_locals, is_part, is_open}
-use Rattle.lg_meaning.specs.Fits.{FitsWell}
+use Rattle.lg_meaning.specs.Fits.{entry_stack, FitsWell}
 use Rattle.lg_meaning.specs.Parts.{IsAmong, IsAmongLocals, LiesInOnePart}
 use Rattle.lg_meaning.specs.Stacks.{HasSmallParts}
 use Rattle.lg_meaning.specs.Laws.{AccessesLieInOnePart}
-use Rattle.lg_meaning.proofs.StackLemmas.{IsWhole, AreStacked, stacked, top_whole, inside, locals_above, in_frames}
+use Rattle.lg_meaning.proofs.StackLemmas.{IsWhole, AreStacked, stacked, entry_high, top_whole, inside, locals_above, in_frames}
 
 -- two addresses that are near are among the locals of one frame: of this one, or of those above it
-near_top : (f : Frame) (gs : List Frame) → AreStacked f gs → IsWhole f → f.size ≤ f.sp → (a w : ℕ) → 0 < w → w ≤ 8
+near_top : (last : ℕ) (f : Frame) (gs : List Frame) → AreStacked last f gs → IsWhole f → f.size ≤ f.sp → (a w : ℕ) → 0 < w → w ≤ 8
     → (in_any_locals gs a ≡ true → in_any_locals gs (a + (w - 1)) ≡ true → IsAmongLocals (f ∷ gs) a w)
     → in_any_locals (f ∷ gs) a ≡ true → in_any_locals (f ∷ gs) (a + (w - 1)) ≡ true → IsAmongLocals (f ∷ gs) a w
-near_top f gs st whole le a w some few above ha hb =
+near_top last f gs st whole le a w some few above ha hb =
     by (or_cases (in_locals f a) (in_any_locals gs a) ha) (or_cases (in_locals f (a + (w - 1))) (in_any_locals gs (a + (w - 1))) hb)
   where
     top : (b : ℕ) → IsWhole f → in_locals f b ≡ true → (f.sp - 144 - f.locals ≤ b) × (b + 144 < f.sp)
@@ -31,16 +31,16 @@ near_top f gs st whole le a w some few above ha hb =
         let i = inside (f.sp - 144 - f.locals) f.locals a x in
         let j = inside (f.sp - 144 - f.locals) f.locals (a + (w - 1)) y in
         record { place = 0; frame = f; here = refl; among = record { from = i.0; to = omega (arith, j.1, some) } }
-    by (inl x) (inr y) = let i = top a whole x in let j = locals_above f gs (a + (w - 1)) st y in absurd (omega (arith, i.1, j.0, few))
-    by (inr x) (inl y) = let i = locals_above f gs a st x in let j = top (a + (w - 1)) whole y in absurd (omega (arith, i.0, j.1))
+    by (inl x) (inr y) = let i = top a whole x in let j = locals_above last f gs (a + (w - 1)) st y in absurd (omega (arith, i.1, j.0, few))
+    by (inr x) (inl y) = let i = locals_above last f gs a st x in let j = top (a + (w - 1)) whole y in absurd (omega (arith, i.0, j.1))
     by (inr x) (inr y) = above x y
 
-near_locals : (f : Frame) (gs : List Frame) → AreStacked f gs → IsWhole f → f.size ≤ f.sp → (a w : ℕ) → 0 < w → w ≤ 8
+near_locals : (last : ℕ) (f : Frame) (gs : List Frame) → AreStacked last f gs → IsWhole f → f.size ≤ f.sp → (a w : ℕ) → 0 < w → w ≤ 8
     → in_any_locals (f ∷ gs) a ≡ true → in_any_locals (f ∷ gs) (a + (w - 1)) ≡ true → IsAmongLocals (f ∷ gs) a w
-near_locals f [] st whole le a w some few ha hb = near_top f [] st whole le a w some few (λ x y. cc) ha hb
-near_locals f (g ∷ gs) st whole le a w some few ha hb =
-    near_top f (g ∷ gs) st whole le a w some few
-    (λ x y. let m = near_locals g gs st.2 (inr st.1) (omega (arith, st.0)) a w some few x y in record { place = suc m.place; frame = m.frame; here = m.here; among = m.among })
+near_locals last f [] st whole le a w some few ha hb = near_top last f [] st whole le a w some few (λ x y. cc) ha hb
+near_locals last f (g ∷ gs) st whole le a w some few ha hb =
+    near_top last f (g ∷ gs) st whole le a w some few
+    (λ x y. let m = near_locals last g gs st.2 (inr st.1) (omega (arith, st.0)) a w some few x y in record { place = suc m.place; frame = m.frame; here = m.here; among = m.among })
     ha hb
 
 -- the part of an address
@@ -76,7 +76,7 @@ module _ (l : LabelledNodes) (shape : TextShape) (s : State) (a w : ℕ) (well :
   in-heap b x = let i = inside 0x30000000 (s.mark - 0x30000000) b x in let most = well.heap.high in record { low = i.0; high = omega (arith, i.0, i.1, most) }
 
   in-stack : (b : ℕ) → in_any_locals frames b ≡ true → IsBetween 0x3FF00010 0x40000000 b
-  in-stack b x = let i = in_frames l shape s well small b x in let low = well.fits.low in record { low = omega (arith, i.0, low); high = i.1 }
+  in-stack b x = let i = in_frames l shape s well small b x in let low = well.fits.low in record { low = omega (arith, i.0, low); high = (let last = entry_high l shape s.frame s.callers well.fits.linked in omega (arith, i.1, last)) }
 
   apart : {A : Type 0} {low high next last : ℕ} → high + 8 ≤ next → IsBetween low high a → IsBetween next last end → A
   apart far x y = let h = x.high in let k = y.low in absurd (omega (arith, far, h, k, few))
@@ -107,7 +107,7 @@ module _ (l : LabelledNodes) (shape : TextShape) (s : State) (a w : ℕ) (well :
   by (inr (inr (inr x))) (inr (inl y)) = back (omega arith) (in-stack a x) (in-args end y)
   by (inr (inr (inr x))) (inr (inr (inl y))) = back (omega arith) (in-stack a x) (in-heap end y)
   by (inr (inr (inr x))) (inr (inr (inr y))) =
-      inr (inr (inr (near_locals s.frame s.callers (stacked l shape s.frame s.callers well.fits.linked) (top_whole l shape s (home l.nodes s.at) well.fits.top) le a w some few x y)))
+      inr (inr (inr (near_locals (entry_stack s.frame s.callers) s.frame s.callers (stacked l shape s.frame s.callers well.fits.linked) (top_whole l shape s (home l.nodes s.at) well.fits.top) le a w some few x y)))
 
   lies : writable (is_open s) a w ≡ true → LiesInOnePart s a w
   lies opens =

@@ -12,6 +12,7 @@ use Rattle.lg_node.proofs.FunctionLaws.{home_within}
 use Rattle.lg_node.proofs.WalkLemmas.{begun_on}
 use Rattle.lg_meaning.specs.States.{State, is_open}
 use Rattle.lg_meaning.specs.Steps.{function_here}
+use Rattle.lg_meaning.specs.Starts.{IsEntryStack}
 use Rattle.lg_meaning.specs.Fits.{RunsIn, IsBeforeAll, IsTopOf, AreLinked, IsHeapMark, FitsWell}
 use Rattle.lg_meaning.proofs.FunctionFacts.{IsAt, same_function}
 use Rattle.lg_meaning.proofs.NodeFacts.{AtNode, Running, at_home}
@@ -74,8 +75,8 @@ module _ (l : LabelledNodes) (shape : TextShape) (s : State) (n : Node) (x : AtN
     all : IsBeforeAll l s
     all = subst (IsTopOf l shape s) out x.well.fits.top
 
-    high : s.frame.sp ≡ 0x40000000
-    high = (subst (AreLinked l shape s.frame) all.alone x.well.fits.linked).0
+    stack : IsEntryStack s.frame.sp
+    stack = (subst (AreLinked l shape s.frame) all.alone x.well.fits.linked).0
 
     -- into the first function
     pub into_function : (t : State) (k : ℕ) → home l.nodes k ≡ Some k → GoesOn l s t k → FitsWell l shape t
@@ -83,9 +84,8 @@ module _ (l : LabelledNodes) (shape : TextShape) (s : State) (n : Node) (x : AtN
         let f = at_home l shape s n x k k h in
         let size : t.frame.size ≡ 0 = ap (λ u. u.size) g.frame ∙ all.size in
         let locals : t.frame.locals ≡ 0 = ap (λ u. u.locals) g.frame ∙ all.locals in
-        let sp : t.frame.sp ≡ 0x40000000 = ap (λ u. u.sp) g.frame ∙ high in
-        let room = frame_small f.0 f.1.small in
-        fits_at t k g (home_within l.nodes k k h) (subst (IsTopOf l shape t) (sym h) (before_top t k f.0 f.1 g.at size locals (rw sp room)))
+        let room = frame_small f.0 s.frame.sp f.1.small stack in
+        fits_at t k g (home_within l.nodes k k h) (subst (IsTopOf l shape t) (sym h) (before_top t k f.0 f.1 g.at size locals (rw g.frame room)))
 
     -- to the next node
     pub next_outside : (t : State) → is_prolog n.op ≡ false → GoesOn l s t (s.at + 1) → FitsWell l shape t

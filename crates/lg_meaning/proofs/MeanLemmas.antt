@@ -12,7 +12,7 @@ use Rattle.lg_meaning.specs.States.{State}
 use Rattle.lg_meaning.specs.Steps.{Outcome, Goes, Ends, Undefined}
 use Rattle.lg_meaning.specs.Texts.{step}
 use Rattle.lg_meaning.specs.Fits.{FitsWell}
-use Rattle.lg_meaning.specs.Starts.{start_state}
+use Rattle.lg_meaning.specs.Starts.{IsEntryStack, start_state_at}
 use Rattle.lg_meaning.specs.Means.{Run, behind, going_on, run_step, mean_from, mean}
 use Rattle.lg_meaning.specs.Laws.{IsFormedAt, MeansAreMachines, StepsAreMeans}
 use Rattle.lg_meaning.proofs.KeepLemmas.{steps_fit}
@@ -84,8 +84,8 @@ module _ (l : LabelledNodes) (shape : TextShape) (A : List ℕ) (is : IsShapeOf 
   pub formed_at : (i : ℕ) → IsFormedAt l i
   formed_at i n e = subst InForm (get_or_from_slice_get l.nodes i n n e) (All-get_or InForm l.nodes i n (slice_get_within l.nodes i n e) formed)
 
-  pub start_fits_well : (image args : List ℕ) → FitsWell l shape (start_state image args)
-  start_fits_well image args = record { fits = start_fits l shape is has image args; heap = record { low = omega arith; high = omega arith } }
+  pub start_fits_well : (sp : ℕ) → IsEntryStack sp → (image args : List ℕ) → FitsWell l shape (start_state_at sp image args)
+  start_fits_well sp stack image args = record { fits = start_fits l shape is has sp stack image args; heap = record { low = omega arith; high = omega arith } }
 
-  pub mean_fits : (image args : List ℕ) (k : ℕ) → FitsWell l shape (mean l shape A image args k).state
-  mean_fits image args k = always l shape A (FitsWell l shape) (λ s t bytes well e. steps_fit l shape A s t bytes is w has (formed_at s.at) well e) (start_state image args) (start_fits_well image args) k
+  pub mean_fits : (sp : ℕ) → IsEntryStack sp → (image args : List ℕ) (k : ℕ) → FitsWell l shape (mean_from l shape A (start_state_at sp image args) k).state
+  mean_fits sp stack image args k = always l shape A (FitsWell l shape) (λ s t bytes well e. steps_fit l shape A s t bytes is w has (formed_at s.at) well e) (start_state_at sp image args) (start_fits_well sp stack image args) k

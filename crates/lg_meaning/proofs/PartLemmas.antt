@@ -16,6 +16,7 @@ use Rattle.lg_meaning.specs.Fits.{FitsWell}
 use Rattle.lg_meaning.specs.Means.{mean}
 use Rattle.lg_meaning.specs.Parts.{Grows, HoldsParts}
 use Rattle.lg_meaning.specs.Stacks.{HasSmallParts}
+use Rattle.lg_base.specs.Layout.{stack_end}
 use Rattle.lg_meaning.specs.Starts.{start_state}
 use Rattle.lg_meaning.proofs.GrowLemmas.{steps_grow}
 use Rattle.lg_meaning.proofs.KeepLemmas.{steps_fit}
@@ -90,7 +91,7 @@ module _ (l : LabelledNodes) (shape : TextShape) (image args : List ℕ) (short 
 
     starts : Holds l shape image args (start_state image args)
     starts = record {
-      well = start_fits_well l shape A is w has formed image args;
+      well = start_fits_well l shape A is w has formed stack_end record { whole = refl; room = omega arith; high = omega arith } image args;
       data_size = refl;
       args_size = refl;
       data_there = λ a i. rw i refl;

@@ -16,7 +16,7 @@ use Rattle.lg_node.specs.ShapeLaws.{HasFunctions}
 use Rattle.lg_node.proofs.WalkLemmas.{prepared_start}
 use Rattle.lg_meaning.specs.States.{in_any_locals, is_open}
 use Rattle.lg_meaning.specs.Fits.{IsTopOf, Fits}
-use Rattle.lg_meaning.specs.Starts.{start_frame, start_state}
+use Rattle.lg_meaning.specs.Starts.{IsEntryStack, start_frame, start_state_at}
 use Rattle.lg_meaning.proofs.FunctionFacts.{function_at_home}
 
 -- a text without nodes has no function, and is refused for that
@@ -31,19 +31,19 @@ one_of true y z u v b e = refl
 one_of false true z u v b e = refl
 one_of false false z u v b e = cc
 
-first_open : (image args : List ℕ) (a b : ℕ) → first_bytes image args a ≡ Some b → is_open (start_state image args) a ≡ true
-first_open image args a b e =
-    one_of (within data_base (length image) a) (within args_base (length args) a) (within heap_base (heap_base - heap_base) a || in_any_locals (start_frame (argument_count args) ∷ []) a) (slice_index image (a - data_base)) (slice_index args (a - args_base)) b e
+first_open : (sp : ℕ) (image args : List ℕ) (a b : ℕ) → first_bytes image args a ≡ Some b → is_open (start_state_at sp image args) a ≡ true
+first_open sp image args a b e =
+    one_of (within data_base (length image) a) (within args_base (length args) a) (within heap_base (heap_base - heap_base) a || in_any_locals (start_frame sp (argument_count args) ∷ []) a) (slice_index image (a - data_base)) (slice_index args (a - args_base)) b e
 
 -- the first frame of each function fits the stack
-pub frame_small : (f : Function) → f.locals ≤ 65536 → 0x3FF00010 + frame_of f ≤ 0x40000000
-frame_small f h = omega arith
+pub frame_small : (f : Function) (sp : ℕ) → f.locals ≤ 65536 → IsEntryStack sp → 0x3FF00010 + frame_of f ≤ sp
+frame_small f sp h stack = omega (arith, stack.room)
 
 least_node : (n : ℕ) → n ≤ 0 → 0 ≡ n
 least_node n h = omega arith
 
-module _ (l : LabelledNodes) (shape : TextShape) (is : IsShapeOf l shape) (has : HasFunctions l) (image args : List ℕ) where
-  top_at : (o : Option ℕ) → home l.nodes 0 ≡ o → IsTopOf l shape (start_state image args) o
+module _ (l : LabelledNodes) (shape : TextShape) (is : IsShapeOf l shape) (has : HasFunctions l) (sp : ℕ) (stack : IsEntryStack sp) (image args : List ℕ) where
+  top_at : (o : Option ℕ) → home l.nodes 0 ≡ o → IsTopOf l shape (start_state_at sp image args) o
   top_at None e = record { outside = refl; alone = refl; size = refl; locals = refl }
   top_at (Some p) e =
       let x = function_at_home l shape has is.functions 0 p e in
@@ -52,16 +52,16 @@ module _ (l : LabelledNodes) (shape : TextShape) (is : IsShapeOf l shape) (has :
         function = x.0;
         here = x.1.here;
         entry = x.1.entry;
-        top = record { behind = λ other. absurd (other (least_node x.0.entry first)); before = λ same. (refl, refl, frame_small x.0 x.1.small) };
+        top = record { behind = λ other. absurd (other (least_node x.0.entry first)); before = λ same. (refl, refl, frame_small x.0 sp x.1.small stack) };
       }
 
-  pub start_fits : Fits l shape (start_state image args)
+  pub start_fits : Fits l shape (start_state_at sp image args)
   start_fits = record {
     inside = some_node l.nodes is.accepted.end;
     top = top_at (home l.nodes 0) refl;
-    linked = (refl, refl);
-    low = omega arith;
+    linked = (stack, refl);
+    low = omega (arith, stack.room);
     pushed = sym (ap pushed_of (prepared_start l.nodes));
     variadic = sym (ap variadic_of (prepared_start l.nodes));
-    memory = first_open image args;
+    memory = first_open sp image args;
   }

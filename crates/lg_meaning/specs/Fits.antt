@@ -13,6 +13,7 @@ use Rattle.lg_node.specs.Preparations.{pushed, variadic}
 use Rattle.lg_node.specs.Checks.{is_begun}
 use Rattle.lg_node.specs.Shapes.{TextShape}
 use Rattle.lg_meaning.specs.States.{Frame, State, is_open}
+use Rattle.lg_meaning.specs.Starts.{IsEntryStack}
 use Rattle.lg_meaning.specs.Steps.{function_here}
 
 -- the running frame is one of a function: before its `prolog` it has no size yet, and can get that of the function; then it has it
@@ -64,9 +65,14 @@ pub record IsCaller (l : LabelledNodes) (shape : TextShape) (f g : Frame) : Type
   pub locals : g.locals ≡ function.locals
   pub below : f.sp + g.size ≡ g.sp
 
--- the frames, the last one first; the entry's was called with the stack's end and two arguments
+-- the stack pointer with which the first of the frames was called
+abbrev pub entry_stack : Frame → List Frame → ℕ
+entry_stack f [] = f.sp
+entry_stack f (g ∷ gs) = entry_stack g gs
+
+-- the frames, the last one first; the entry's was called with a stack pointer with which a run may begin, and with two arguments
 abbrev pub AreLinked : LabelledNodes → TextShape → Frame → List Frame → Type 0
-AreLinked l shape f [] = (f.sp ≡ 0x40000000) × (length f.args ≡ 2)
+AreLinked l shape f [] = IsEntryStack f.sp × (length f.args ≡ 2)
 AreLinked l shape f (g ∷ gs) = IsCaller l shape f g × AreLinked l shape g gs
 
 -- a state fits the shape of nodes; no frame begins below 0x3FF00010, since each begins below those of its callers

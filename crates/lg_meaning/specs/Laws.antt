@@ -18,13 +18,13 @@ use Rattle.lg_meaning.specs.Reasons.{why}
 use Rattle.lg_meaning.specs.declared.reason.Reason.{Reason}
 use Rattle.lg_meaning.specs.Parts.{Grows, HoldsParts, LiesInOnePart}
 use Rattle.lg_meaning.specs.Stacks.{HasSmallParts, OpensLocalsAlone}
-use Rattle.lg_meaning.specs.Starts.{start_state}
+use Rattle.lg_meaning.specs.Starts.{IsEntryStack, start_state_at}
 use Rattle.lg_meaning.specs.Means.{run_at, behind, machine, mean_from, mean}
 
 -- ---- the fit
--- the state at the start fits the shape of each accepted text
+-- the state at the start fits the shape of each accepted text, with whatever stack pointer the run begins
 abbrev pub StartsFit : Type 0
-StartsFit = (l : LabelledNodes) (shape : TextShape) → IsShapeOf l shape → (image args : List ℕ) → Fits l shape (start_state image args)
+StartsFit = (l : LabelledNodes) (shape : TextShape) → IsShapeOf l shape → (sp : ℕ) → IsEntryStack sp → (image args : List ℕ) → Fits l shape (start_state_at sp image args)
 
 -- a node has the operands of its operation
 abbrev pub IsFormedAt : LabelledNodes → ℕ → Type 0
@@ -37,8 +37,8 @@ StepsKeepFit = (l : LabelledNodes) (shape : TextShape) (addresses : List ℕ) (s
 
 -- so each state of the portable meaning of nodes that have the operands of their operations fits
 abbrev pub MeansFit : Type 0
-MeansFit = (l : LabelledNodes) (shape : TextShape) (addresses image args : List ℕ) (k : ℕ)
-    → IsShapeOf l shape → All InForm l.nodes → FitsWell l shape (mean l shape addresses image args k).state
+MeansFit = (l : LabelledNodes) (shape : TextShape) (addresses image args : List ℕ) (sp k : ℕ)
+    → IsShapeOf l shape → All InForm l.nodes → IsEntryStack sp → FitsWell l shape (mean_from l shape addresses (start_state_at sp image args) k).state
 
 -- where a state fits at a node of a function, the running frame has that function's size and locals behind the `prolog`, and neither at it
 abbrev pub FramesAreOfFunctions : Type 0

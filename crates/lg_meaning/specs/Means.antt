@@ -1,27 +1,36 @@
 -- The runs of the portable meaning.
-use Rattle.std.specs.Prelude.{ℕ, List, [], ◌++◌}
+use Rattle.std.specs.Prelude.{ℕ, List, [], ◌++◌, Option, Some, None}
 use Rattle.lg_base.specs.Runs.{Status, Running, Ended, Bad, Machine, iter}
 use Rattle.lg_node.specs.Nodes.{LabelledNodes}
 use Rattle.lg_node.specs.Shapes.{TextShape}
 use Rattle.lg_meaning.specs.States.{State}
-use Rattle.lg_meaning.specs.Steps.{Outcome, Goes, Ends, Undefined}
+use Rattle.lg_meaning.specs.Steps.{Ending, ending_status, Outcome, Goes, Ends, Undefined}
 use Rattle.lg_meaning.specs.Texts.{step}
 use Rattle.lg_meaning.specs.Starts.{start_state}
 
--- a run: how it stands (Bad where it has become undefined), its last state, and the bytes that it has written
+-- a run: how it stands (Bad where it has become undefined), its last state, the bytes that it has written, and how it ended last
 pub record Run : Type 0 where
   pub status : Status
   pub state : State
   pub out : List ℕ
+  pub ending : Option Ending
+
+-- how it has ended, where it has
+abbrev pub ending_in : Status → Option Ending → Option Ending
+ending_in Running ending = None
+ending_in status ending = ending
+
+abbrev pub ending_of : Run → Option Ending
+ending_of r = ending_in r.status r.ending
 
 -- one that goes on, at a state
 abbrev pub run_at : State → List ℕ → Run
-run_at s out = record { status = Running; state = s; out = out }
+run_at s out = record { status = Running; state = s; out = out; ending = None }
 
 -- behind a step with this outcome
 abbrev pub behind : Run → Outcome → Run
 behind r (Goes t bytes) = run_at t (r.out ++ bytes)
-behind r (Ends status) = record r { status = Ended status }
+behind r (Ends e) = record r { status = Ended (ending_status e); ending = Some e }
 behind r Undefined = record r { status = Bad }
 
 -- a run that ended or became undefined stays so

@@ -38,10 +38,20 @@ use Rattle.lg_op.specs.declared.carry.Carry.TheVariants as carry
 use Rattle.lg_op.specs.Operators.{binary_value, sets_carry, carry_in, value_with_carry, carry_made, holds, branch_sum_value, branch_sum_goes, wide_value, unary_value, keeps_carry, width, extended_by_type, store_width}
 use Rattle.lg_meaning.specs.States.{Frame, State, value, named, is_open}
 
--- what a step does: it goes to a state and writes bytes, ends the run with a status, or is undefined
+-- how a step ends the run: a host function exits with a status, or the first frame is left with a result, where there is one
+pub data Ending : Type 0 where
+  Exited : (status : ℕ) → Ending
+  Left : (result : Option ℕ) → Ending
+
+-- the status of a run that ends so
+abbrev pub ending_status : Ending → ℕ
+ending_status (Exited status) = status
+ending_status (Left result) = 0
+
+-- what a step does: it goes to a state and writes bytes, ends the run, or is undefined
 pub data Outcome : Type 0 where
   Goes : State → List ℕ → Outcome
-  Ends : ℕ → Outcome
+  Ends : Ending → Outcome
   Undefined : Outcome
 
 -- what a step knows of the text: the address of each label, where it is bound, the functions, and which labels are taken
@@ -262,9 +272,9 @@ begun s f = record s {
 abbrev pub prolog_step : Text → State → Outcome
 prolog_step t s = need (function_here t.functions s.at) (λ f. quiet (on (begun s f)))
 
--- a return to a caller takes the locals away; that of the first frame ends the run
+-- a return to a caller takes the locals away; that of the first frame ends the run, with its result
 abbrev pub back_to : State → Option ℕ → List Frame → Outcome
-back_to s v [] = Ends 0
+back_to s v [] = Ends (Left v)
 back_to s v (g ∷ gs) =
     quiet (resumed (record s { frame = g; callers = gs; mem = without s.mem (s.frame.sp - 144 - s.frame.locals) s.frame.locals }) s.frame.back s.frame.saved v)
 
@@ -280,7 +290,7 @@ answered s v mem mark = record (resumed s (s.at + 1) s.regs (Some v)) { mem = me
 
 abbrev pub host_end : State → Host → Outcome
 host_end s (Gives v changes mark bytes) = Goes (answered s v (after (memory s.mem (is_open s) s.mark) changes mark).bytes mark) bytes
-host_end s (Exits status) = Ends status
+host_end s (Exits status) = Ends (Exited status)
 host_end s host.Undefined = Undefined
 
 abbrev pub is_marked : Option Bool → Bool

@@ -123,7 +123,7 @@ impl NodeList {
 
     /// The node of an index, which is below `len`, where it stands. It is in form.
     #[inline]
-    pub(crate) fn node_at(&self, index: u32) -> &Node
+    pub fn node_at(&self, index: u32) -> &Node
         requires { index < length self.now.nodes }
         ensures node { Some result.now ≡ slice_get self.now.nodes index }
         ensures form { InForm result.now }

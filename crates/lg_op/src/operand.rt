@@ -1,6 +1,7 @@
 // Registers, labels and operands.
 
-ghost use Rattle.std.specs.Prelude.{◌≡◌, ◌<◌, ◌≤◌, ◌+◌, [], ◌∷◌, ◌++◌, length};
+ghost use Rattle.std.specs.Prelude.{◌≡◌, ◌<◌, ◌≤◌, ◌+◌, [], ◌∷◌, ◌++◌, length, slice_index_or};
+ghost use Rattle.lg_op.specs.declared.operand.Operand.TheVariants as operand;
 
 use lg_base::HostName;
 use std::marker::Model;
@@ -98,6 +99,15 @@ impl Operands {
                 len: 4,
             },
         }
+    }
+
+    /// The operand of a number below 4; behind the last one the number 0.
+    #[inline]
+    pub fn at(&self, index: usize) -> &Operand
+        requires { index < 4 }
+        ensures { result.now ≡ slice_index_or self.now index (operand.Number 0) }
+    {
+        &self.list[index]
     }
 
     /// The operands.

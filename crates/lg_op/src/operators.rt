@@ -19,6 +19,7 @@ fn divides(a: u64, b: u64) -> bool
 }
 
 // The word of a quotient or a remainder, or None where it is undefined; None of the others.
+#[inline(always)]
 fn partial(op: BinaryOp, a: u64, b: u64) -> Option<u64>
     ensures { result ≡ partial_value op a b }
 {
@@ -33,6 +34,7 @@ fn partial(op: BinaryOp, a: u64, b: u64) -> Option<u64>
 
 /// The word of two words, for an operation with two operands and one result that sets no carry. A shift is by its count modulo 64. None
 /// where it is undefined: a zero divisor, and the signed quotient or remainder of the least word by -1; and for operations that set the carry.
+#[inline(always)]
 pub fn binary(op: BinaryOp, a: u64, b: u64) -> Option<u64>
     ensures { result ≡ binary_value op a b }
 {
@@ -115,6 +117,7 @@ pub fn carry_out(op: BinaryOp, a: u64, b: u64, bit: bool) -> Carry
 }
 
 /// Whether a condition holds of O2 and O3: whether the branch goes.
+#[inline(always)]
 pub fn holds(condition: Condition, a: u64, b: u64) -> bool
     ensures { result ≡ holds condition a b }
 {

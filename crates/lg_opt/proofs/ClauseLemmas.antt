@@ -72,7 +72,7 @@ module _ (l : LabelledNodes) (shape : TextShape) (is : IsShapeOf l shape) (forme
 
     pub dropped-runs : RunsAreDropped l shape m new_shape origin
     dropped-runs = subst (λ (x : LabelledNodes). RunsAreDropped l shape x new_shape origin) (sym d.nodes) (subst (RunsAreDropped l shape dm new_shape) (sym d.from)
-        (λ size A image args are. are-dropped l shape is formed A new_shape (subst (λ (x : LabelledNodes). new_shape.functions ≡ functions x.nodes) d.nodes d.shaped.functions) d.taken size are image args))
+        (λ size A sp image args stack are. are-dropped l shape is formed A new_shape (subst (λ (x : LabelledNodes). new_shape.functions ≡ functions x.nodes) d.nodes d.shaped.functions) d.taken size are sp image args stack))
 
   module _ (d : IsThreadedTo l shape m new_shape origin) where
     abbrev tm : LabelledNodes
@@ -108,7 +108,7 @@ module _ (l : LabelledNodes) (shape : TextShape) (is : IsShapeOf l shape) (forme
 
     pub threaded-runs : RunsAreThreaded l shape m new_shape
     threaded-runs = subst (λ (x : LabelledNodes). RunsAreThreaded l shape x new_shape) (sym d.nodes)
-        (λ size A image args are. are-threaded l shape is formed d.targets d.are new_shape (subst (λ (x : LabelledNodes). new_shape.functions ≡ functions x.nodes) d.nodes d.shaped.functions) d.taken A size are image args)
+        (λ size A sp image args stack are. are-threaded l shape is formed d.targets d.are new_shape (subst (λ (x : LabelledNodes). new_shape.functions ≡ functions x.nodes) d.nodes d.shaped.functions) d.taken A size are sp image args stack)
 
 -- two rewritings, one behind the other
 abbrev pub Joined : (Node → Node → Type 0) → (Node → Node → Type 0) → Node → Node → Type 0

@@ -23,7 +23,7 @@ use Rattle.lg_node.proofs.WellShaped.{well_shaped}
 use Rattle.lg_meaning.specs.Addresses.{AreAddresses}
 use Rattle.lg_meaning.specs.Fits.{is_call, FitsWell, AreLinked}
 use Rattle.lg_meaning.specs.Means.{mean_from}
-use Rattle.lg_meaning.specs.Starts.{start_frame, start_state}
+use Rattle.lg_meaning.specs.Starts.{IsEntryStack, start_frame, start_state_at}
 use Rattle.lg_base.specs.Arguments.{argument_count}
 use Rattle.lg_meaning.specs.States.{Frame, State}
 use Rattle.lg_meaning.specs.Steps.{Goes, Text, node_step}
@@ -64,8 +64,8 @@ call-leaps (op.Control control.Finish last) e = refl
 call-leaps o e = cc
 
 -- the start, over other numbers
-pub start-over : (nu : ℕ → ℕ) → nu 0 ≡ 0 → (image args : List ℕ) → start_state image args ≡ over nu (start_state image args) 0 carry.Undefined None
-start-over nu e image args = ap (λ b. record (start_state image args) { frame = record (start_frame (argument_count args)) { back = b } }) (sym e)
+pub start-over : (nu : ℕ → ℕ) → nu 0 ≡ 0 → (sp : ℕ) (image args : List ℕ) → start_state_at sp image args ≡ over nu (start_state_at sp image args) 0 carry.Undefined None
+start-over nu e sp image args = ap (λ b. record (start_state_at sp image args) { frame = record (start_frame sp (argument_count args)) { back = b } }) (sym e)
 
 module _ (l : LabelledNodes) where
   -- a move that does nothing
@@ -166,12 +166,12 @@ module _ (l : LabelledNodes) where
                 subst (AreSources t) (sym (ap (sources_before l) at ∙ next-sources s.at n.0 n.1 h f))
                 (sources-on (text l shape A) n.0 s t bytes (sources_before l s.at) good.1 h went (λ k e. not-fp n.0 k (formed-at s.at n.0 n.1) e))
 
-    all-good : (image args : List ℕ) (k : ℕ) → Good (mean_from l shape A (start_state image args) k).state
+    all-good : (sp : ℕ) (image args : List ℕ) → IsEntryStack sp → (k : ℕ) → Good (mean_from l shape A (start_state_at sp image args) k).state
     unfolding sources_before
-    all-good image args k = always l shape A Good
+    all-good sp image args stack k = always l shape A Good
         (λ s t bytes good g. (steps_fit l shape A s t bytes is (well_shaped l is.accepted) (has_functions l is.accepted) (formed-at s.at) good.0 g, sources-step s t bytes good g))
-        (start_state image args)
-        (start_fits_well l shape A is (well_shaped l is.accepted) (has_functions l is.accepted) formed image args, λ x y e. cc)
+        (start_state_at sp image args)
+        (start_fits_well l shape A is (well_shaped l is.accepted) (has_functions l is.accepted) formed sp stack image args, λ x y e. cc)
         k
 
     module _ (new_shape : TextShape) (en : new_shape.functions ≡ functions (rewritten l (stays l) no_targets).nodes) (et : new_shape.taken ≡ shape.taken) (size : ℕ) (are : AreAddresses (rewritten l (stays l) no_targets) size A) where
@@ -231,13 +231,13 @@ module _ (l : LabelledNodes) where
           by (Some n) false f s h = let no : false ≡ true = sym (drops-calm i s) ∙ ap leaps_at f ∙ h in cc
 
       -- the run of the new nodes follows
-      pub are-dropped : (image args : List ℕ) → RunIsDropped l shape (rewritten l (stays l) no_targets) new_shape (origins (stays l) (length l.nodes)) A image args
-      are-dropped image args =
-          let start : Dropped nu (start_state image args) (start_state image args) = record {
+      pub are-dropped : (sp : ℕ) (image args : List ℕ) → IsEntryStack sp → RunIsDropped l shape (rewritten l (stays l) no_targets) new_shape (origins (stays l) (length l.nodes)) A sp image args
+      are-dropped sp image args stack =
+          let start : Dropped nu (start_state_at sp image args) (start_state_at sp image args) = record {
             at = 0;
             bit = carry.Undefined;
             result = None;
-            is = start-over nu (number-zero (stays l)) image args;
+            is = start-over nu (number-zero (stays l)) sp image args;
             lands = sym (number-zero (stays l));
             carries = inl refl;
             answers = inl refl;
@@ -246,8 +246,8 @@ module _ (l : LabelledNodes) where
               j = _;
               stays = stays l;
               to = nu;
-              drops = drops p (stays l) nu Good (Dropped nu) (λ s k a. ap (λ (x : State). x.at) a.is ∙ a.lands) stepped drops-calm (start_state image args) (start_state image args) (all-good image args) start;
-              memory = drops-look p (stays l) nu Good (Dropped nu) (λ s k a. ap (λ (x : State). x.at) a.is ∙ a.lands) stepped drops-calm (start_state image args) (start_state image args) (all-good image args) start
+              drops = drops p (stays l) nu Good (Dropped nu) (λ s k a. ap (λ (x : State). x.at) a.is ∙ a.lands) stepped drops-calm (start_state_at sp image args) (start_state_at sp image args) (all-good sp image args stack) start;
+              memory = drops-look p (stays l) nu Good (Dropped nu) (λ s k a. ap (λ (x : State). x.at) a.is ∙ a.lands) stepped drops-calm (start_state_at sp image args) (start_state_at sp image args) (all-good sp image args stack) start
                   (λ s k a. ap memory_in a.is);
               leaps = leaps-stay;
             },

@@ -6,7 +6,7 @@ use Rattle.lg_temp.proofs.Steps.{iter-suc}
 use Rattle.lg_carry.specs.Carries.{leaps_at}
 use Rattle.lg_carry.proofs.FallLemmas.{nodes-fall}
 use Rattle.lg_meaning.specs.States.{State}
-use Rattle.lg_meaning.specs.Steps.{Outcome, Goes, Ends, Undefined}
+use Rattle.lg_meaning.specs.Steps.{ending_status, Outcome, Goes, Ends, Undefined}
 use Rattle.lg_meaning.specs.Means.{Run, run_at, behind, run_step, machine, mean_from}
 use Rattle.lg_opt.specs.Drops.{Drops}
 use Rattle.lg_opt.specs.Follows.{LooksAlike}
@@ -44,7 +44,7 @@ module _ (p : Pair) (keeps : ℕ → Bool) (number : ℕ → ℕ) (Good : State 
 
       by : (o : Outcome) → old_step p (o-at k).state ≡ o → at (o-at (suc k)) ≡ suc (at (o-at k))
       by (Goes t bytes) g = ap at (next ∙ ap (behind (o-at k)) g) ∙ nodes-fall p.old p.old_shape p.addresses (o-at k).state t bytes (calm (at (o-at k)) e) g ∙ add-one (at (o-at k))
-      by (Ends c) g = absurd (over-now (Ended c) (λ r. cc) (ap (λ r. r.status) (next ∙ ap (behind (o-at k)) g)))
+      by (Ends c) g = absurd (over-now (Ended (ending_status c)) (λ r. cc) (ap (λ r. r.status) (next ∙ ap (behind (o-at k)) g)))
       by Undefined g = absurd (over-now Bad (λ r. cc) (ap (λ r. r.status) (next ∙ ap (behind (o-at k)) g)))
 
   pub drops : Drops (machine p.old p.old_shape p.addresses) (machine p.new p.new_shape p.addresses) (run_at s0 []) (run_at m0 []) (moves_made p (λ s m. keeps s.at) s0 m0) at at keeps number

@@ -5,13 +5,13 @@ use Rattle.lg_base.specs.Runs.{Status, Running, Ended, Bad}
 use Rattle.lg_node.specs.Nodes.{LabelledNodes}
 use Rattle.lg_node.specs.Shapes.{TextShape}
 use Rattle.lg_carry.specs.Carries.{leaps_at}
-use Rattle.lg_meaning.specs.Means.{Run, behind, run_at, run_step, machine}
-use Rattle.lg_meaning.specs.Starts.{start_state}
+use Rattle.lg_meaning.specs.Means.{ending_in, Run, behind, run_at, run_step, machine}
+use Rattle.lg_meaning.specs.Starts.{start_state_at}
 use Rattle.lg_meaning.specs.Texts.{step}
 use Rattle.lg_meaning.proofs.MeanLemmas.{means_are_machines}
 use Rattle.lg_opt.specs.Drops.{JumpsQuietly}
 use Rattle.lg_opt.proofs.LawLemmas.{followed}
-use Rattle.lg_opt.specs.Rewritten.{at, is_loud, memory_of}
+use Rattle.lg_opt.specs.Rewritten.{at, is_loud, memory_in, memory_of}
 use Rattle.lg_opt.specs.Hops.{jump_at}
 use Rattle.lg_opt.specs.Runs.{DroppedAndThreadedAreFollowed}
 use Rattle.lg_opt.proofs.RunLemmas.{goes, stays, stays-bad}
@@ -33,12 +33,12 @@ keeps-memory : (l : LabelledNodes) (shape : TextShape) (addresses : List ℕ) (r
 keeps-memory l shape addresses r e = by r.status refl
   where
     by : (t : Status) → r.status ≡ t → memory_of (run_step (step l shape addresses) r) ≡ memory_of r
-    by Running f = ap memory_of (goes (step l shape addresses) r f ∙ ap (behind r) (old-jump l shape addresses r.state e))
+    by Running f = ap memory_of (goes (step l shape addresses) r f ∙ ap (behind r) (old-jump l shape addresses r.state e)) ∙ sym (ap (λ t. (memory_in r.state, ending_in t r.ending)) f)
     by (Ended c) f = ap memory_of (stays (step l shape addresses) r c f)
     by Bad f = ap memory_of (stays-bad (step l shape addresses) r f)
 
 pub law : DroppedAndThreadedAreFollowed
-law l m n shape middle_shape new_shape A image args d t =
+law l m n shape middle_shape new_shape A sp image args d t =
     followed (machine l shape A) (machine m middle_shape A) (machine n new_shape A) at at (means_are_machines l shape A).0 (is_loud n) memory_of memory_of memory_of
-    (run_at (start_state image args) []) (run_at (start_state image args) []) (run_at (start_state image args) []) d.j t.j d.stays (jump_at m) (λ i. leaps_at (slice_get m.nodes i)) d.to
+    (run_at (start_state_at sp image args) []) (run_at (start_state_at sp image args) []) (run_at (start_state_at sp image args) []) d.j t.j d.stays (jump_at m) (λ i. leaps_at (slice_get m.nodes i)) d.to
     d.drops t.threads (quiet m middle_shape A) (keeps-memory m middle_shape A) d.memory t.memory

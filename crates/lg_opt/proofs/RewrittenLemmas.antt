@@ -5,11 +5,11 @@ use Rattle.lg_base.specs.Runs.{Machine, iter}
 use Rattle.lg_node.specs.Nodes.{LabelledNodes}
 use Rattle.lg_node.specs.Shapes.{TextShape}
 use Rattle.lg_meaning.specs.States.{State}
-use Rattle.lg_meaning.specs.Steps.{Outcome, Goes, Ends, Undefined}
+use Rattle.lg_meaning.specs.Steps.{ending_status, Outcome, Goes, Ends, Undefined}
 use Rattle.lg_meaning.specs.Texts.{step}
 use Rattle.lg_meaning.specs.Means.{Run, run_at}
 use Rattle.lg_meaning.specs.Means as mean
-use Rattle.lg_meaning.specs.Starts.{start_state}
+use Rattle.lg_meaning.specs.Starts.{start_state_at}
 use Rattle.lg_meaning.proofs.MeanLemmas.{means_are_machines}
 use Rattle.lg_carry.specs.Processors.{Processor}
 use Rattle.lg_carry.specs.FinalNodes.{Code}
@@ -18,11 +18,13 @@ use Rattle.lg_carry.specs.Carries.{leaps_at, Leads}
 use Rattle.lg_carry.specs.Ranks.{StandAlike, IsCarried}
 use Rattle.lg_carry.specs.Memories.{AlikeInMemory}
 use Rattle.lg_carry.proofs.MeaningLemmas.{meaning-steps}
+use Rattle.lg_carry.specs.Endings.{AreAlike}
+use Rattle.lg_carry.proofs.EndingLemmas.{carried-end-alike}
 use Rattle.lg_carry.proofs.MemoryLemmas.{code-keeps-pace}
 use Rattle.lg_temp.specs.Paces.{KeepsPace}
 use Rattle.lg_opt.specs.Loud.{StandsAlike, LandsLoud, CarriesLoud}
 use Rattle.lg_opt.proofs.LawLemmas.{runs-agree}
-use Rattle.lg_opt.specs.Rewritten.{at, is_loud, NodesAreFollowed, RemembersAlike, RewrittenCodeAgrees, RewrittenCodeKeepsPace}
+use Rattle.lg_opt.specs.Rewritten.{at, is_loud, NodesAreFollowed, RemembersAlike, RewrittenCodeAgrees, RewrittenCodeEndsAlike, RewrittenCodeKeepsPace}
 
 module _ {M Q : Type 0} (m : Machine M) (state : M → State) (P : Processor Q) (c : Code) (before : ℕ → ℕ → Bool) (ok : IsCarried m state P c before) where
   abbrev loud : M → Bool
@@ -50,33 +52,33 @@ module _ {M Q : Type 0} (m : Machine M) (state : M → State) (P : Processor Q) 
             some = l.some;
             there = inr (g.0, there);
           }
-      by (Ends n) e l =
-          let g = ok.steps.ends p n h.0 e in
+      by (Ends x) e l =
+          let g = ok.steps.ends p x h.0 e in
           record {
             steps = l.steps;
             few = l.few;
             way = λ i lt. ⊎_elim (λ w. inl w) (λ w. inl w) (l.way i lt);
             some = l.some;
-            there = inl (n, g.0, l.there.0, l.there.1 ∙ sym g.1);
+            there = inl (ending_status x, g.0, l.there.0, l.there.1 ∙ sym g.1);
           }
       by Undefined e l = absurd l.there
 
 pub rewritten-agrees : {Q : Type 0} (P : Processor Q) → RewrittenCodeAgrees P
-rewritten-agrees P c before l shape image args q n machine nodes followed inside st =
+rewritten-agrees P c before l shape sp image args q n machine nodes followed inside st =
     let new = means_are_machines c.nodes c.shape c.addresses in
     let old = means_are_machines l shape c.addresses in
     let ok : IsCarried (mean.machine c.nodes c.shape c.addresses) (λ (r : Run). r.state) P c before = record { meaning = new.0; silent = new.1; steps = meaning-steps c; processor = machine; nodes = nodes } in
     runs-agree (mean.machine l shape c.addresses) (mean.machine c.nodes c.shape c.addresses) at (is_loud c.nodes) old.0 P.machine
     (StandAlike (mean.machine c.nodes c.shape c.addresses) (λ (r : Run). r.state) P c before) old.1 machine
-    (run_at (start_state image args) []) (run_at (start_state image args) []) q (length l.nodes) n followed.0 inside
+    (run_at (start_state_at sp image args) []) (run_at (start_state_at sp image args) []) q (length l.nodes) n followed.0 inside
     (alike _ (λ (r : Run). r.state) P c before ok) (carry-loud _ (λ (r : Run). r.state) P c before ok) refl (refl, st)
 
 -- where the old run stands after k steps, the new one stands after j k
-followed-paced : {Q : Type 0} (P : Processor Q) (l : LabelledNodes) (shape : TextShape) (m : LabelledNodes) (new_shape : TextShape) (addresses image args : List ℕ) (q : Q)
-    (f : NodesAreFollowed l shape m new_shape addresses image args) → RemembersAlike l shape m new_shape addresses image args f.j
-    → KeepsPace (mean.machine m new_shape addresses) P.machine (AlikeInMemory (λ r. r.state) P) (run_at (start_state image args) []) q
-    → KeepsPace (mean.machine l shape addresses) P.machine (AlikeInMemory (λ r. r.state) P) (run_at (start_state image args) []) q
-followed-paced P l shape m new_shape addresses image args q f remembers paced = record {
+followed-paced : {Q : Type 0} (P : Processor Q) (l : LabelledNodes) (shape : TextShape) (m : LabelledNodes) (new_shape : TextShape) (addresses : List ℕ) (sp : ℕ) (image args : List ℕ) (q : Q)
+    (f : NodesAreFollowed l shape m new_shape addresses sp image args) → RemembersAlike l shape m new_shape addresses sp image args f.j
+    → KeepsPace (mean.machine m new_shape addresses) P.machine (AlikeInMemory (λ r. r.state) P) (run_at (start_state_at sp image args) []) q
+    → KeepsPace (mean.machine l shape addresses) P.machine (AlikeInMemory (λ r. r.state) P) (run_at (start_state_at sp image args) []) q
+followed-paced P l shape m new_shape addresses sp image args q f remembers paced = record {
   pace = λ k. paced.pace (f.j k);
   start = ap paced.pace f.follows.start ∙ paced.start;
   rises = λ k. ⊎_elim
@@ -91,9 +93,41 @@ followed-paced P l shape m new_shape addresses image args q f remembers paced = 
       let s = f.follows.status k fine in
       let there = paced.alike (f.j k) (λ b. fine (sym s ∙ b)) in
       let held = remembers k fine in
-      record { bytes_are = λ a b lt e. there.bytes_are a b lt (ap (λ m. m.0 a) held ∙ e); mark_is = there.mark_is ∙ ap (λ m. m.1) held };
+      record { bytes_are = λ a b lt e. there.bytes_are a b lt (ap (λ m. m.0.0 a) held ∙ e); mark_is = there.mark_is ∙ ap (λ m. m.0.1) held };
 }
 
 pub rewritten-paced : {Q : Type 0} (P : Processor Q) → RewrittenCodeKeepsPace P
-rewritten-paced P c before l shape image args q machine nodes followed st =
-    followed-paced P l shape c.nodes c.shape c.addresses image args q followed.0 followed.1 (code-keeps-pace P c before image args q machine nodes st)
+rewritten-paced P c before l shape sp image args q machine nodes followed st =
+    followed-paced P l shape c.nodes c.shape c.addresses sp image args q followed.0 followed.1 (code-keeps-pace P c before sp image args q machine nodes st)
+
+-- so it does to the end
+followed-to-end : {Q : Type 0} (P : Processor Q) (c : Code) (l : LabelledNodes) (shape : TextShape) (m : LabelledNodes) (new_shape : TextShape) (addresses : List ℕ) (sp : ℕ) (image args : List ℕ) (q : Q)
+    (f : NodesAreFollowed l shape m new_shape addresses sp image args) → RemembersAlike l shape m new_shape addresses sp image args f.j
+    → KeepsPace (mean.machine m new_shape addresses) P.machine (AreAlike P c) (run_at (start_state_at sp image args) []) q
+    → KeepsPace (mean.machine l shape addresses) P.machine (AreAlike P c) (run_at (start_state_at sp image args) []) q
+followed-to-end P c l shape m new_shape addresses sp image args q f remembers paced = record {
+  pace = λ k. paced.pace (f.j k);
+  start = ap paced.pace f.follows.start ∙ paced.start;
+  rises = λ k. ⊎_elim
+      (λ (e : f.j (suc k) ≡ f.j k). let z = ap paced.pace e in (omega (arith, z), omega (arith, z)))
+      (λ (e : f.j (suc k) ≡ suc (f.j k)). let z = ap paced.pace e in let up = paced.rises (f.j k) in (omega (arith, z, up.0), omega (arith, z, up.1)))
+      (f.follows.rises k);
+  same = λ k fine.
+      let s = f.follows.status k fine in
+      let there = paced.same (f.j k) (λ b. fine (sym s ∙ b)) in
+      record { sound = there.sound; status = there.status ∙ s; out = there.out ∙ f.follows.out k fine };
+  alike = λ k fine.
+      let s = f.follows.status k fine in
+      let there = paced.alike (f.j k) (λ b. fine (sym s ∙ b)) in
+      let held = remembers k fine in
+      record {
+        memory = record { bytes_are = λ a b lt e. there.memory.bytes_are a b lt (ap (λ m. m.0.0 a) held ∙ e); mark_is = there.memory.mark_is ∙ ap (λ m. m.0.1) held };
+        ended = λ e is. there.ended e (ap (λ m. m.1) held ∙ is);
+        unwritten = there.unwritten;
+      };
+}
+
+pub rewritten-end-alike : {Q : Type 0} (P : Processor Q) → RewrittenCodeEndsAlike P
+rewritten-end-alike P c before l shape sp image args q machine hosts nodes followed st unwritten =
+    followed-to-end P c l shape c.nodes c.shape c.addresses sp image args q followed.0 followed.1
+    (carried-end-alike P c before (run_at (start_state_at sp image args) []) q machine hosts nodes (refl, st) unwritten)

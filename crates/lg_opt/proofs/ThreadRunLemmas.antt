@@ -14,7 +14,7 @@ use Rattle.lg_op.specs.declared.op.LastOperand.TheVariants as last_operand
 use Rattle.lg_carry.specs.Carries.{leaps, leaps_at}
 use Rattle.lg_carry.proofs.FallLemmas.{nodes-fall}
 use Rattle.lg_meaning.specs.States.{State}
-use Rattle.lg_meaning.specs.Steps.{Outcome, Goes, Ends, Undefined, Text, operand_at, node_of_label, to, node_step}
+use Rattle.lg_meaning.specs.Steps.{ending_status, Outcome, Goes, Ends, Undefined, Text, operand_at, node_of_label, to, node_step}
 use Rattle.lg_node.specs.Nodes.{LabelledNodes}
 use Rattle.lg_node.specs.Shapes.{TextShape}
 use Rattle.lg_meaning.specs.Texts.{text, step_at, step}
@@ -236,7 +236,7 @@ module _ (p : Pair) (h : Threaded) (th : IsThreadedBy p h) where
             ap (λ r. r.state.at) (one ∙ ap (behind (n-at (j k))) g) ∙ nodes-fall p.new p.new_shape p.addresses (n-at (j k)).state x bytes calm g ∙ add-one (n-at (j k)).state.at ∙ ap suc (plain-here k before e)
         by (Ends c) g = absurd (over-now (ap (λ r. r.status) (one ∙ ap (behind (n-at (j k))) g)) (going (suc k) run))
           where
-            over-now : (n-at (j (suc k))).status ≡ Ended c → (n-at (j (suc k))).status ≡ Running → ⊥
+            over-now : (n-at (j (suc k))).status ≡ Ended (ending_status c) → (n-at (j (suc k))).status ≡ Running → ⊥
             over-now a b = cc
         by Undefined g = absurd (over-now (ap (λ r. r.status) (one ∙ ap (behind (n-at (j k))) g)) (going (suc k) run))
           where

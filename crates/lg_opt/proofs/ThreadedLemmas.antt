@@ -13,7 +13,7 @@ use Rattle.lg_node.specs.Shapes.{TextShape, IsShapeOf}
 use Rattle.lg_node.proofs.SuccessorLaws.{has_functions}
 use Rattle.lg_node.proofs.WellShaped.{well_shaped}
 use Rattle.lg_meaning.specs.Addresses.{AreAddresses}
-use Rattle.lg_meaning.specs.Starts.{start_state}
+use Rattle.lg_meaning.specs.Starts.{IsEntryStack, start_state_at}
 use Rattle.lg_meaning.specs.Steps.{operand_at, Text}
 use Rattle.lg_meaning.specs.Texts.{text}
 use Rattle.lg_meaning.proofs.MeanLemmas.{mean_fits}
@@ -126,21 +126,21 @@ module _ (l : LabelledNodes) (shape : TextShape) (is : IsShapeOf l shape) (forme
       less i e f = one-less l (length l.nodes) i (λ z. let lt = inside i e in omega arith) e f
 
   -- the run of the new nodes follows that of the old ones, and turns with it
-  pub are-threaded : (image args : List ℕ) → AreThreaded l shape (rewritten l (stays l) targets) new_shape A image args
-  are-threaded image args =
-      let start : Alike nu (Lands l h) (start_state image args) (start_state image args) = record {
+  pub are-threaded : (sp : ℕ) (image args : List ℕ) → IsEntryStack sp → AreThreaded l shape (rewritten l (stays l) targets) new_shape A sp image args
+  are-threaded sp image args stack =
+      let start : Alike nu (Lands l h) (start_state_at sp image args) (start_state_at sp image args) = record {
         at = 0;
         bit = carry.Undefined;
         result = None;
-        is = start-over nu (number-zero (stays l)) image args;
+        is = start-over nu (number-zero (stays l)) sp image args;
         lands = inl (sym (number-zero (stays l)));
         carries = inl refl;
         answers = inl refl;
       } in
       record {
         j = _;
-        threads = threads p h by-threads (start_state image args) (start_state image args)
-            (λ k. (mean_fits l shape A is (well_shaped l is.accepted) (has_functions l is.accepted) formed image args k).fits.inside) start;
-        memory = threads-look p h by-threads (start_state image args) (start_state image args)
-            (λ k. (mean_fits l shape A is (well_shaped l is.accepted) (has_functions l is.accepted) formed image args k).fits.inside) start;
+        threads = threads p h by-threads (start_state_at sp image args) (start_state_at sp image args)
+            (λ k. (mean_fits l shape A is (well_shaped l is.accepted) (has_functions l is.accepted) formed sp stack image args k).fits.inside) start;
+        memory = threads-look p h by-threads (start_state_at sp image args) (start_state_at sp image args)
+            (λ k. (mean_fits l shape A is (well_shaped l is.accepted) (has_functions l is.accepted) formed sp stack image args k).fits.inside) start;
       }

@@ -16,6 +16,7 @@ use Rattle.lg_opt.specs.Moves as moves
 use Rattle.lg_opt.specs.Remaining.{retargeted, rewritten, no_targets, origins}
 use Rattle.lg_opt.specs.Targets.{AreTargets}
 use Rattle.lg_opt.specs.Runs.{AreDropped, AreThreaded}
+use Rattle.lg_meaning.specs.Starts.{IsEntryStack}
 
 -- each new node stands for the old one of a number, and the numbers rise
 pub record IsOrigin (Stands : Node → Node → Type 0) (l m : LabelledNodes) (origin : List ℕ) : Type 0 where
@@ -68,22 +69,22 @@ abbrev pub CarriesAddresses : LabelledNodes → LabelledNodes → Type 0
 CarriesAddresses l m = (size : ℕ) (addresses : List ℕ) → AreAddresses m size addresses → AreAddresses l size addresses
 
 -- the new run follows the old one: it steps where the old one stands at a node for which a new one stands
-abbrev pub RunIsDropped : LabelledNodes → TextShape → LabelledNodes → TextShape → List ℕ → List ℕ → List ℕ → List ℕ → Type 0
-RunIsDropped l shape m new_shape origin addresses image args =
-    (run : AreDropped l shape m new_shape addresses image args) × IsNumberedBy origin (length l.nodes) run.stays run.to
+abbrev pub RunIsDropped : LabelledNodes → TextShape → LabelledNodes → TextShape → List ℕ → List ℕ → ℕ → List ℕ → List ℕ → Type 0
+RunIsDropped l shape m new_shape origin addresses sp image args =
+    (run : AreDropped l shape m new_shape addresses sp image args) × IsNumberedBy origin (length l.nodes) run.stays run.to
 
 -- over addresses of the labels in the new nodes the new run follows the old one, from each start
 abbrev pub RunsAreDropped : LabelledNodes → TextShape → LabelledNodes → TextShape → List ℕ → Type 0
 RunsAreDropped l shape m new_shape origin =
-    (size : ℕ) (addresses image args : List ℕ) → AreAddresses m size addresses → RunIsDropped l shape m new_shape origin addresses image args
+    (size : ℕ) (addresses : List ℕ) (sp : ℕ) (image args : List ℕ) → IsEntryStack sp → AreAddresses m size addresses → RunIsDropped l shape m new_shape origin addresses sp image args
 
 abbrev pub RunsAreThreaded : LabelledNodes → TextShape → LabelledNodes → TextShape → Type 0
 RunsAreThreaded l shape m new_shape =
-    (size : ℕ) (addresses image args : List ℕ) → AreAddresses m size addresses → AreThreaded l shape m new_shape addresses image args
+    (size : ℕ) (addresses : List ℕ) (sp : ℕ) (image args : List ℕ) → IsEntryStack sp → AreAddresses m size addresses → AreThreaded l shape m new_shape addresses sp image args
 
 abbrev pub RunsAreFollowed : LabelledNodes → TextShape → LabelledNodes → TextShape → Type 0
 RunsAreFollowed l shape m new_shape =
-    (size : ℕ) (addresses image args : List ℕ) → AreAddresses m size addresses → MeaningIsFollowed l shape m new_shape addresses image args
+    (size : ℕ) (addresses : List ℕ) (sp : ℕ) (image args : List ℕ) → IsEntryStack sp → AreAddresses m size addresses → MeaningIsFollowed l shape m new_shape addresses sp image args
 
 -- no needless move, no jump to a jump and none to what follows
 pub record IsTidy (l : LabelledNodes) : Type 0 where

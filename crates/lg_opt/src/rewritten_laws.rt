@@ -1,6 +1,6 @@
 // What holds of the code of rewritten nodes. The functions do nothing: their contracts are the laws.
 
-ghost use Rattle.lg_opt.specs.Rewritten.{RewrittenCodeAgrees, RewrittenCodeKeepsPace};
+ghost use Rattle.lg_opt.specs.Rewritten.{RewrittenCodeAgrees, RewrittenCodeEndsAlike, RewrittenCodeKeepsPace};
 
 use lg_carry::laws::Runs;
 
@@ -14,4 +14,9 @@ pub fn rewritten_code_agrees<R: Runs>()
 /// same and share their memory.
 pub fn rewritten_code_keeps_pace<R: Runs>()
     ensures { RewrittenCodeKeepsPace R.processor }
+{}
+
+/// And so it does to the end, with what is kept for who called the entry, and with its result.
+pub fn rewritten_code_ends_alike<R: Runs>()
+    ensures { RewrittenCodeEndsAlike R.processor }
 {}

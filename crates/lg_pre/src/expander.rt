@@ -9,6 +9,8 @@ ghost use Rattle.lg_pre.specs.Expanded.{lines_in, defines, undefines, opens_name
 ghost use Rattle.lg_macro.specs.Macros.{CountsAs, StepsAs, Reads};
 ghost use Rattle.std.specs.Prelude.{Ok};
 ghost use Rattle.lg_macro.specs.Pieces.{piece_at, between};
+ghost use Rattle.lg_pre.specs.PlainTexts.{IsPlain};
+ghost use Rattle.std.specs.Prelude.{true};
 
 use crate::conditions::Conditions;
 use crate::directive::{Directive, directive_of};
@@ -20,6 +22,8 @@ use lg_macro::{
     MOST_HELD, Pieces, PlainText, Table, Work, line_len, mark_in, one_word, push_cut, refused,
     spliced, stripped_from, text_pieces, written,
 };
+use memchr::memchr;
+use memchr::memmem::find;
 use std::alloc::Global;
 
 /// What a text has come to: macros, open conditions, the lines that wait for the next directive, bytes given, and the sum of replacements.
@@ -49,7 +53,7 @@ fn undefine(alloc: Global, table: &mut Table, line: u32, rest: &Pieces) -> Resul
     match one_word(alloc, rest)? {
         None => Err(refused(RefusalKind::BadDirective, line)),
         Some(name) => {
-            table.undefine(name.as_bytes());
+            table.undefine(name.as_slice());
             Ok(())
         }
     }
@@ -76,7 +80,7 @@ fn open_named(
     match one_word(alloc, rest)? {
         None => Err(refused(RefusalKind::BadDirective, line)),
         Some(name) => {
-            let is = table.place_in(name.as_bytes()).is_some();
+            let is = table.place_in(name.as_slice()).is_some();
             conditions.open(line, true, is_as_wanted(wanted, is))
         }
     }
@@ -348,12 +352,32 @@ fn expand_pieces(alloc: Global, text: &Pieces) -> Result<PlainText, Stop>
     Ok(expander.given)
 }
 
+// Whether no byte of a text is a `#`, and the name that is defined at the start stands nowhere in it.
+fn is_plain(text: &[u8]) -> bool
+    ensures { result ≡ true → IsPlain text.now }
+{
+    memchr(b'#', text).is_none() && find(text, b"__WORDSIZE").is_none()
+}
+
+// A plain text as it is.
+#[tactic(auto, using(crate::proofs::PlainScans::plain_expands))]
+fn stay(alloc: Global, text: &[u8]) -> Result<PlainText, Stop>
+    requires short { length text.now ≤ 16777216 }
+    requires plain { IsPlain text.now }
+    ensures { Reads result (expanded text.now) }
+{
+    Ok(PlainText::of(alloc, text)?)
+}
+
 /// The expansion of a text of at most 16,777,216 bytes, or its first fault, `BadDirective`, `BadMacro` or `ExpandTooMuch`, with its line.
 #[tactic(auto, unfolding(crate::specs::Expanded::expanded))]
 pub fn expand(alloc: Global, text: &[u8]) -> Result<PlainText, Stop>
     requires { length text.now ≤ 16777216 }
     ensures { Reads result (expanded text.now) }
 {
+    if is_plain(text) {
+        return stay(alloc, text);
+    }
     let pieces = text_pieces(alloc, text)?;
     expand_pieces(alloc, &pieces)
 }

@@ -209,7 +209,7 @@ fn is_chosen(alloc: Global, line: u32, pieces: &Pieces) -> Result<bool, Stop>
     if text.len() > MOST_TEXT {
         return Err(Stop::OutOfMemory);
     }
-    match value_in(text.as_bytes()) {
+    match value_in(text.as_slice()) {
         None => Err(refused(RefusalKind::BadDirective, line)),
         Some(value) => Ok(value != 0),
     }

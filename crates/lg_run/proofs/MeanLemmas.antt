@@ -27,9 +27,9 @@ module _ (l : LabelledNodes) (shape : TextShape) (A : List ℕ) (start : State) 
   comes (runs_end.Ended status) n most s c h =
       let k = h.1.0 in let g = h.1.2 in (
         h.0,
-        ap (λ j. (meaning j).status) h.1.1 ∙ ap (λ r. r.status) h.1.3,
+        ap (λ j. (meaning j).status) h.1.1 ∙ ap (λ r. r.status) h.1.3.2,
         λ j lt. let is = h.1.1 in let le : j ≤ k = omega (arith, lt, is) in has_meant j k le (ap (λ r. r.status) g.stands),
-        subst (Took c) (sym (ap (λ j. (meaning j).out) h.1.1 ∙ ap (λ r. r.out) h.1.3 ∙ ap (λ r. r.out) g.stands)) g.written,
+        subst (Took c) (sym (ap (λ j. (meaning j).out) h.1.1 ∙ ap (λ r. r.out) h.1.3.2 ∙ ap (λ r. r.out) g.stands)) g.written,
       )
   comes (runs_end.Undefined line) n most s c h =
       let g = h.1 in (

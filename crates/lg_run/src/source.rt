@@ -43,7 +43,7 @@ fn read_rest<T: Texts>(alloc: Global, piece: &mut [u8], texts: &mut T) -> Result
     ensures faults { ReadTells (T.faults texts.old) (T.faults texts.new) result }
     ensures sure { T.sure texts.old ≡ true → T.faults texts.new ≡ T.faults texts.old }
     ensures few { ReadsFew (T.left texts.old) (T.left texts.new) }
-    ensures on { (T.reading texts.old).at_end ≡ false → IsReadOn (T.reading texts.old) (T.reading texts.new) }
+    ensures on { (T.reading texts.old).is_over ≡ false → IsReadOn (T.reading texts.old) (T.reading texts.new) }
 {
     let mut text = Vec::new(alloc);
     while text.len() <= MOST_TEXT {
@@ -62,7 +62,7 @@ fn read_rest<T: Texts>(alloc: Global, piece: &mut [u8], texts: &mut T) -> Result
 }
 
 /// The whole text of a name. A read fault comes exactly where a call of the source failed, and never of a sure source that holds the name; no other call is
-/// made behind it. The text is selected once and read from its start, and not again where a read found its end: at most 16,777,216 bytes and a piece of
+/// made after it. The text is selected once and read from its start, and not again where a read found its end or failed: at most 16,777,216 bytes and a piece of
 /// 65,536 are taken.
 pub fn read_text<T: Texts>(alloc: Global, name: &str, texts: &mut T) -> Result<Vec<u8>, ReadStop>
     ensures text { IfOk result (λ v. IsTextUnder (T.held texts.old) name.now v.items) }

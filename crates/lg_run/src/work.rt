@@ -293,7 +293,7 @@ fn do_read<O: Sink>(
     ensures reads { TellsNoRead result.done.answer }
 {
     match expand(alloc, read) {
-        Ok(text) => do_text(alloc, command, args, text.as_bytes(), out),
+        Ok(text) => do_text(alloc, command, args, text.as_slice(), out),
         Err(stop) => untold(without_code(stopped(stop))),
     }
 }

@@ -8,7 +8,7 @@ use Rattle.lg_buf.specs.declared.fixes.FixKind.{FixKind}
 use Rattle.lg_buf.specs.Buffers.{Buffer, AreDone, place_of}
 use Rattle.lg_buf.specs.Fixing.{IsWithin, Fits}
 use Rattle.lg_carry.specs.Blocks.{spellings}
-use Rattle.lg_carry.specs.FinalNodes.{Code}
+use Rattle.lg_carry.specs.FinalNodes.{Code, saved_at}
 use Rattle.lg_carry.specs.Homes.{IsHomesOf}
 use Rattle.lg_carry.specs.TextNodes.{IsInText, IsFrameOf, HasPlaces, NamesCode}
 use Rattle.lg_cpu.specs.Laws.{AreBytes}
@@ -127,7 +127,7 @@ pub record IsNodeOf (unit : ℕ) (node : Node) (frame homes saved : ℕ) (staged
   pub text : IsInText c i node
   pub frame_is : IsFrameOf c i frame
   pub homes_are : IsHomesOf c i homes
-  pub saved_is : c.saved ≡ saved
+  pub saved_is : saved_at c i ≡ saved
   pub names : NamesCode c node
   pub pushed_are : (j : ℕ) → j < pushed c.nodes.nodes i → slice_index_or staged j false ≡ true
   pub exact : is_pusharg node.op ≡ true → staged ≡ first_arguments (pushed c.nodes.nodes i)

@@ -9,7 +9,7 @@ ghost use Rattle.lg_sel.specs.Reaches.{reach_ahead};
 ghost use Rattle.lg_sel.specs.Families.{staged_count};
 
 use crate::{NEAR_SIZE, Reach, SMALL_SIZE};
-use lg_buf::{CodeBuf, CodeLabel};
+use lg_buf::{CodeBuf, Label32};
 use lg_op::Operand;
 use lg_temp::Staged;
 
@@ -43,7 +43,7 @@ pub fn first_reach(operands: &[Operand], buf: &CodeBuf) -> Reach
         return Reach::Far;
     }
     match operands {
-        [Operand::Label(label), ..] => match buf.bound(CodeLabel(label.0)) {
+        [Operand::Label(label), ..] => match buf.bound(Label32(label.0)) {
             Some(_) => Reach::Short,
             None => reach_ahead(buf.size()),
         },

@@ -8,7 +8,7 @@ ghost use Rattle.lg_sela_values.specs.Items.{a64_holes, IsItem, NamesOneOf, has_
 use crate::items::Item;
 use crate::rows::wide;
 use lg_a64::{Instr, WideOp, encode};
-use lg_buf::{CodeLabel, Fix, FixKind};
+use lg_buf::{Fix, FixKind, Label32};
 use lg_sel::Bytes;
 
 // Appends the bytes of an instruction. There is room for them.
@@ -70,7 +70,7 @@ impl lg_sel::Item for Item {
         Some(Fix {
             place,
             kind,
-            label: CodeLabel(label),
+            label: Label32(label),
         })
     }
 }

@@ -7,7 +7,7 @@ ghost use Rattle.lg_selr_values.specs.Items.{rv_holes, IsItem, NamesOneOf, has_w
 
 use crate::items::Item;
 use crate::rows::{branch, imm, upper};
-use lg_buf::{CodeLabel, Fix, FixKind};
+use lg_buf::{Fix, FixKind, Label32};
 use lg_rv::{ImmOp, Instr, UpperOp, encode};
 use lg_sel::Bytes;
 
@@ -78,7 +78,7 @@ impl lg_sel::Item for Item {
         Some(Fix {
             place,
             kind,
-            label: CodeLabel(label),
+            label: Label32(label),
         })
     }
 }

@@ -6,7 +6,7 @@ ghost use Rattle.lg_selx_values.specs.declared.items.Item.TheVariants.{One};
 ghost use Rattle.lg_selx_values.specs.Items.{x86_holes, IsItem, NamesOneOf, has_word};
 
 use crate::items::{Item, move_size};
-use lg_buf::{CodeLabel, Fix, FixKind};
+use lg_buf::{Fix, FixKind, Label32};
 use lg_sel::Bytes;
 use lg_x86::{Instr, encode};
 
@@ -63,7 +63,7 @@ impl lg_sel::Item for Item {
         Some(Fix {
             place: place + before,
             kind,
-            label: CodeLabel(label),
+            label: Label32(label),
         })
     }
 }

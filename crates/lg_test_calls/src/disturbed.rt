@@ -23,25 +23,25 @@ const MOST_CODE: u32 = 1_048_576;
 
 const MOST_DATA: u32 = 16_777_216;
 
-// What registers hold at first. Code runs the same whatever it is.
-const ANYTHING: u64 = 0x5A5A_5A5A_5A5A_5A5A;
+/// What registers hold at first. Code runs the same whatever it is.
+pub(crate) const ANYTHING: u64 = 0x5A5A_5A5A_5A5A_5A5A;
 
-// The most steps of a run.
-const MOST_STEPS: u32 = 200_000;
+/// The most steps of a run.
+pub(crate) const MOST_STEPS: u32 = 200_000;
 
 // How many words are written over: 512 bytes.
 const WORDS: u64 = 64;
 
-// Room for what a run writes.
-const ROOM: usize = 1_048_576;
+/// Room for what a run writes, in bytes.
+pub(crate) const ROOM: usize = 1_048_576;
 
-// The unit of a text of at most 16,777,216 bytes.
-fn unit_of(alloc: Global, text: &[u8]) -> Result<Unit, Stop> {
+/// The unit of a text of at most 16,777,216 bytes.
+pub(crate) fn unit_of(alloc: Global, text: &[u8]) -> Result<Unit, Stop> {
     if text.len() > MOST_TEXT {
         return Err(Stop::OutOfMemory);
     }
     let expanded = expand(alloc, text)?;
-    parse(alloc, expanded.as_bytes())
+    parse(alloc, expanded.as_slice())
 }
 
 // The words of a call that takes one step of a text's code for a target.
@@ -50,14 +50,14 @@ fn step_words(alloc: Global, target: &str) -> Result<Vec<String>, OutOfMemory> {
     words_of(alloc, line.as_str(), "")
 }
 
-// The code of a text for a target, by such a call.
-fn code_of(alloc: Global, target: &str, text: &[u8]) -> Result<Code, Stop> {
+/// The code of a text for a target, by such a call.
+pub(crate) fn code_of(alloc: Global, target: &str, text: &[u8]) -> Result<Code, Stop> {
     let words = step_words(alloc, target)?;
     code_on_text(alloc, &words, text)?.ok_or(Stop::OutOfMemory)
 }
 
-// Whether code and a data part fit the memory.
-fn fit(code: &Code, unit: &Unit) -> bool
+/// Whether code and a data part fit the memory.
+pub(crate) fn fit(code: &Code, unit: &Unit) -> bool
     ensures { IsTrue result → (length code.now.bytes ≤ most_code) × (length unit.now.image ≤ 0x1000000) }
 {
     code.bytes().len() <= MOST_CODE && unit.image.len() <= MOST_DATA
@@ -164,8 +164,8 @@ fn run_alike(
     Ok(still.end == disturbed.end && still.out.bytes() == disturbed.out.bytes())
 }
 
-// The argument part of a text with these words behind its name, with bars between.
-fn args_of(alloc: Global, further: &str) -> Result<ArgImage, Stop>
+/// The argument part of a text with these words after its name, with bars between.
+pub(crate) fn args_of(alloc: Global, further: &str) -> Result<ArgImage, Stop>
     ensures { IfOk result (λ args. length args ≤ most_args) }
 {
     let words = words_of(alloc, "t.tst", further)?;

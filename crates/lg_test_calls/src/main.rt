@@ -1,7 +1,7 @@
 // What calls of the program come to, by the files of `data`: `cases` has texts with what they write and how they end, or whose code is to do what they mean;
 // `properties` asks of some of them, on each target of `targets.txt`, that their profile adds up, that their listing is read back, and that their code runs on
-// a stack that is disturbed between any two instructions; `any_text` takes any bytes for a text, and `changed_listings` any for a listing; `edges` has what
-// stands in no table. Prints what each part found. The status is 0 exactly where all calls of the cases are right.
+// a stack that is disturbed between any two instructions; `called` calls code by the targets' calling conventions; `any_text` takes any bytes for a text, and
+// `changed_listings` any for a listing; `edges` has what is in no table. Prints what each part found. The status is 0 exactly where all calls of the cases are right.
 #![tactic(auto)]
 
 ghost use Rattle.std.specs.Prelude.{◌≡◌};
@@ -10,6 +10,7 @@ ghost use Rattle.lg_test_calls.specs.Ends.{status_of};
 
 mod any_text;
 mod call;
+mod called;
 mod cases;
 mod changed_listings;
 mod disturbed;
@@ -23,6 +24,7 @@ mod tally;
 mod texts;
 
 use any_text::change_texts;
+use called::call_texts;
 use cases::make_cases;
 use changed_listings::change_listings;
 use edges::{try_beginnings, try_edges};
@@ -42,6 +44,7 @@ fn exit_code(all: bool) -> ExitCode
 // Tries what stands in no table of cases, on these targets.
 fn try_others(rt: &HostRuntime, targets: &str) -> io::Result<()> {
     try_texts(rt, targets)?;
+    call_texts(rt, targets)?;
     try_edges(rt)?;
     try_beginnings(rt)?;
     list_labels(rt, targets)?;

@@ -11,7 +11,7 @@ use std::alloc::Global;
 use std::test::Fail;
 
 // Appends `beq x5, x6` to a label.
-fn branch_to(buf: &mut CodeBuf, label: CodeLabel) -> bool
+fn branch_to(buf: &mut CodeBuf, label: Label32) -> bool
     requires label { label.0 < length buf.old.labels }
     requires room { 0 < buf.old.room }
     ensures labels { IsTrue result → buf.new.labels ≡ buf.old.labels }
@@ -31,14 +31,14 @@ fn put_branches(buf: &mut CodeBuf) -> bool
     requires room { buf.old.room ≡ 2 }
     ensures ready { IsTrue result → All (IsReady buf.new.labels) buf.new.fixes }
 {
-    buf.bind(CodeLabel(1));
-    if !branch_to(buf, CodeLabel(2))
+    buf.bind(Label32(1));
+    if !branch_to(buf, Label32(2))
         || !buf.emit(&[0x13, 0x00, 0x00, 0x00])
-        || !branch_to(buf, CodeLabel(1))
+        || !branch_to(buf, Label32(1))
     {
         return false;
     }
-    buf.bind(CodeLabel(2));
+    buf.bind(Label32(2));
     buf.is_ready()
 }
 

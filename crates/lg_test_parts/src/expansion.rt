@@ -21,7 +21,7 @@ fn expanded(alloc: Global, text: &[u8]) -> Result<PlainText, Stop> {
 /// Whether this is the expansion, or the kind and the line of the refusal.
 pub(crate) fn gives(alloc: Global, text: &[u8], wanted: Wanted) -> bool {
     match expanded(alloc, text) {
-        Ok(given) => are_wanted(given.as_bytes(), wanted),
+        Ok(given) => are_wanted(given.as_slice(), wanted),
         Err(stop) => is_stop(stop, wanted),
     }
 }

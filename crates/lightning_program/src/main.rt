@@ -1,16 +1,21 @@
 // The program `lightning`: the top call on the words of the process, its files and its standard streams.
-// Each write goes out at once, with no buffer between.
 #![tactic(auto)]
 
 ghost use Rattle.std.specs.Prelude.{◌≡◌};
 ghost use Rattle.std.specs.Process.{exit_status};
+ghost use Rattle.lg_base.specs.Arguments.{texts_of};
+ghost use Rattle.lg_io.specs.SinkChanges.{on_sink};
+ghost use Rattle.lg_run.specs.Calls.{Says};
+ghost use Rattle.lg_run.specs.Changes.{on_texts};
 ghost use Rattle.lg_run.specs.Statuses.{status_of_answer};
+ghost use Rattle.lg_run.specs.declared.answer.Done.{Done as CallDone};
 
-use lg_io::{Sink, StdSink, StdTexts, Texts};
+use lg_io::{StdSink, StdTexts, Texts};
 use lg_run::top::{lightning, report_words};
-use lg_run::{Answer, Done, status};
+use lg_run::{Answer, status};
 use std::alloc::Global;
 use std::process::ExitCode;
+use std::rt::{Stderr, Stdout};
 use std::{env, io};
 
 // The words of the process, the program's name first, or the answer where there are none: words that are no text are of no form of the
@@ -38,24 +43,29 @@ fn exit_code(answer: &Answer) -> ExitCode
     ExitCode::from(status(answer))
 }
 
-// What a call comes to. What it promises is not looked at here, and is quick to prove of any texts and sinks.
-fn done_on<T: Texts, O: Sink, E: Sink>(
+// Makes the call, and ends with the status of its answer. The two streams have types of their own, so that one is not taken for the other.
+fn ended<T: Texts>(
     alloc: Global,
     words: &Vec<String>,
     texts: &mut T,
-    out: &mut O,
-    err: &mut E,
-) -> Done {
-    lightning(alloc, words, texts, out, err)
+    out: &mut StdSink<Stdout>,
+    err: &mut StdSink<Stderr>,
+) -> ExitCode
+    ensures { let texts_change = on_texts T.held T.faults T.sure texts.old texts.new in
+        let out_change = on_sink (λ sink. sink.held) (λ sink. sink.faults) out.old out.new in
+        let err_change = on_sink (λ sink. sink.held) (λ sink. sink.faults) err.old err.new in
+        (done : CallDone) × Says (texts_of words.now.items) texts_change out_change err_change done × (exit_status result ≡ status_of_answer done.answer) }
+{
+    let done = lightning(alloc, words, texts, out, err);
+    exit_code(&done.answer)
 }
 
 fn main(rt: HostRuntime) -> ExitCode {
     let mut texts = StdTexts::new(&rt);
     let mut out = StdSink::new(rt.stdout());
     let mut err = StdSink::new(rt.stderr());
-    let answer = match words(&rt) {
-        Ok(words) => done_on(rt.alloc(), &words, &mut texts, &mut out, &mut err).answer,
-        Err(answer) => report_words(answer, &mut err),
-    };
-    exit_code(&answer)
+    match words(&rt) {
+        Ok(words) => ended(rt.alloc(), &words, &mut texts, &mut out, &mut err),
+        Err(answer) => exit_code(&report_words(answer, &mut err)),
+    }
 }

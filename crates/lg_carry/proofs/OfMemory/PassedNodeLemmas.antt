@@ -42,8 +42,7 @@ use Rattle.lg_temp.specs.Chosen.{Around, around, stands_in, staged_in, is_busy}
 use Rattle.lg_base.specs.declared.flags.Flags.{Flags}
 use Rattle.lg_base.specs.Flags.{carry_of}
 use Rattle.lg_carry.specs.AgreeInFrame.{StaysInFrame}
-use Rattle.lg_carry.specs.FinalNodes.{Code, is_inside}
-use Rattle.lg_carry.specs.Homes.{homes_at}
+use Rattle.lg_carry.specs.FinalNodes.{Code, is_inside, function_at}
 use Rattle.lg_carry.specs.Places.{AreStacked}
 use Rattle.lg_carry.specs.Processors.{Seen, is_below, stack_of}
 use Rattle.lg_carry.specs.Registers.{HoldsCarry, CarryIs}
@@ -71,7 +70,7 @@ use Rattle.lg_carry.specs.Nodes.Stretches.{HasFrame}
 use Rattle.lg_node.specs.Labels.{is_inner}
 use Rattle.lg_carry.specs.Nodes.Straight.{is_taken, spoils, HoldsRead, IsKept, from_to, StepsTo, ComputesNode, NeedWell, ComputingNodesCarry, PlainNodesCarry}
 use Rattle.lg_carry.proofs.PlaceLemmas.{nodes-stand-inside}
-use Rattle.lg_carry.proofs.OfNodes.HomesLemmas.{homes-same}
+use Rattle.lg_carry.proofs.OfNodes.HomesLemmas.{function-same}
 use Rattle.lg_carry.proofs.OfNodes.RegisterLemmas.{stands-for, number-few, numbered-at, given}
 use Rattle.lg_carry.proofs.OfNodes.TemporaryLemmas.{IsTemporary, IsOffered, temporary, keep-taken, unspoilt, lost-taken}
 use Rattle.lg_carry.specs.Nodes.Stretches.{StandsAt, behind, PassesIn}
@@ -356,9 +355,9 @@ module _ {Q I : Type 0} (R : Rows Q I) (scratch : ℕ → Bool) (fits : I → Ty
           here = leaves.here ∙ sym k.next ∙ ap (λ j. c.place (j + 1)) (sym at) ∙ ap c.place (sym next);
           before = inside;
           behind = ap (is_inside c) next ∙ ap (λ j. is_inside c (j + 1)) at ∙ (shaped c.nodes t.well).next i place.entry place.home (ap is_epilog_at t.here ∙ no-epilog n.op falls);
-          homes = ap (homes_at c) next ∙ ap (λ j. homes_at c (j + 1)) at
-              ∙ homes-same c i n t i (i + 1) place.entry place.home (t.well.falls i place.entry place.home (ap is_epilog_at t.here ∙ no-epilog n.op falls)).0
-              ∙ sym (ap (homes_at c) at);
+          function = ap (function_at c) next ∙ ap (λ j. function_at c (j + 1)) at
+              ∙ function-same c i n t i (i + 1) place.entry place.home (t.well.falls i place.entry place.home (ap is_epilog_at t.here ∙ no-epilog n.op falls)).0
+              ∙ sym (ap (function_at c) at);
           frame = frame;
           callers = callers;
           pointer = kept-other (frame_register target) other-frame (unspoilt choices (is_taken choices) (frame_register target) frame-untaken);

@@ -22,9 +22,8 @@ use Rattle.lg_meaning.specs.States.{Frame, State, reg, value}
 use Rattle.lg_meaning.specs.Steps.{Goes, Undefined, need, branch, to, node_in, node_of_label}
 use Rattle.lg_meaning.specs.Texts.{text, step_at, step}
 use Rattle.lg_temp.specs.Abis.{register_of}
-use Rattle.lg_carry.specs.Homes.{homes_at}
-use Rattle.lg_carry.proofs.OfNodes.HomesLemmas.{next-homes}
-use Rattle.lg_carry.specs.FinalNodes.{Code, is_inside}
+use Rattle.lg_carry.proofs.OfNodes.HomesLemmas.{next-function}
+use Rattle.lg_carry.specs.FinalNodes.{Code, is_inside, function_at}
 use Rattle.lg_carry.specs.Carries.{moves_at, Leads}
 use Rattle.lg_carry.specs.NodeCode.{numbered, live_before, live_behind}
 use Rattle.lg_carry.specs.Passages.{IsNodeCode}
@@ -91,7 +90,7 @@ module _ {Q I : Type 0} (R : Rows Q I) (scratch : ℕ → Bool) (fits : I → Ty
     place-next : c.place (i + 1) ≡ high
     place-next = k.next
 
-    goes-to : (j : ℕ) → is_inside c j ≡ true → homes_at c j ≡ homes_at c i → step c.nodes c.shape c.addresses s ≡ Goes (to s j) [] → Way R.processor scratch (c.place i) high W (c.place j) q → Leads R.processor c live (live_behind live n S s) i (step c.nodes c.shape c.addresses s) out q
+    goes-to : (j : ℕ) → is_inside c j ≡ true → function_at c j ≡ function_at c i → step c.nodes c.shape c.addresses s ≡ Goes (to s j) [] → Way R.processor scratch (c.place i) high W (c.place j) q → Leads R.processor c live (live_behind live n S s) i (step c.nodes c.shape c.addresses s) out q
     goes-to j side level goes' way = way-leads R scratch fits isa c i n t high place-next (live_before n S) S record { moves = refl; sinks = refl; rises = refl } inside live s out q at st s.regs W
         record { is = λ z v lt e g. st.state.registers.is z v lt (still-live n S z (unwritten-here z) e) g } st.state.pushed refl refl j side level goes' way
 
@@ -118,7 +117,7 @@ module _ {Q I : Type 0} (R : Rows Q I) (scratch : ℕ → Bool) (fits : I → Ty
         by true e = jumps e (goes' ∙ ap (λ b. Goes (to s (if b then node_of_label c.nodes.places (operand.Label l) else s.at + 1)) []) e ∙ ap (λ z. Goes (to s z) []) (ap node_in lands.place))
         by false e =
             let z : s.at + 1 ≡ i + 1 = ap (λ j. j + 1) at in
-            goes-to (s.at + 1) (ap (is_inside c) z ∙ (let p = in-some c i n t refl in next-inside c i n t p.0 p.1 refl)) (ap (homes_at c) z ∙ next-homes c i n t inside refl) (goes' ∙ ap (λ b. Goes (to s (if b then node_of_label c.nodes.places (operand.Label l) else s.at + 1)) []) e)
+            goes-to (s.at + 1) (ap (is_inside c) z ∙ (let p = in-some c i n t refl in next-inside c i n t p.0 p.1 refl)) (ap (function_at c) z ∙ next-function c i n t inside refl) (goes' ∙ ap (λ b. Goes (to s (if b then node_of_label c.nodes.places (operand.Label l) else s.at + 1)) []) e)
             (subst (λ y'. Way R.processor scratch (c.place i) high W y' q) (ap (λ b. if b then slice_index c.addresses l.0 else high) e ∙ sym place-next ∙ ap c.place (sym z)) (way (λ f. absurd (differ e f))))
           where
             differ : {b : Bool} → b ≡ false → b ≡ true → ⊥

@@ -23,8 +23,8 @@ use Rattle.lg_meaning.proofs.FunctionFacts.{IsAt, function_at_home}
 use Rattle.lg_live.specs.Uses.{is_written}
 use Rattle.lg_carry.specs.AgreeAcrossFrames.{entered}
 use Rattle.lg_carry.specs.Homes.{homes_at}
-use Rattle.lg_carry.proofs.OfNodes.HomesLemmas.{next-homes, call-no-epilog}
-use Rattle.lg_carry.specs.FinalNodes.{Code, is_inside}
+use Rattle.lg_carry.proofs.OfNodes.HomesLemmas.{next-function, call-no-epilog}
+use Rattle.lg_carry.specs.FinalNodes.{Code, is_inside, function_at}
 use Rattle.lg_carry.specs.Frames.{at_call, IsSettled, IsLinked}
 use Rattle.lg_carry.specs.Places.{AreStacked}
 use Rattle.lg_carry.specs.Registers.{HoldsArguments, HasArguments}
@@ -103,7 +103,7 @@ module _ {Q I : Type 0} (R : Rows Q I) (c : Code) (i : ℕ) (n : Node) (S : ℕ 
           let agree : StatesAgree target c live s' (R.processor.seen u) S = call-agrees target c live s args to (R.processor.seen q) (R.processor.seen u) (live_before n S) S st.state
           record {
             before = before R c i n S inside live s out q at st;
-            homes = ap (λ j. homes_at c (j + 1)) at ∙ next-homes c i n t inside (call-no-epilog n.op calls) ∙ sym (ap (homes_at c) at);
+            function = ap (λ j. function_at c (j + 1)) at ∙ next-function c i n t inside (call-no-epilog n.op calls) ∙ sym (ap (function_at c) at);
             needed = λ v lt l. still-live n S (v + 3) (unwritten v lt) (sym (returns.new args calls (v + 3)) ∙ l);
             kept = arr.kept;
             pointer = arr.frame;

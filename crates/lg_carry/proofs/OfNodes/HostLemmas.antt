@@ -18,16 +18,15 @@ use Rattle.lg_host.proofs.HostLawLemmas.{host_of-kept}
 use Rattle.lg_op.specs.declared.node.Node.{Node}
 use Rattle.lg_cpu.specs.HostSteps.{argument_words}
 use Rattle.lg_meaning.specs.States.{Frame, State, is_open}
-use Rattle.lg_meaning.specs.Steps.{Outcome, Goes, Ends, answered, host_end, is_marked, call_host, kept as kept_registers}
+use Rattle.lg_meaning.specs.Steps.{Exited, Outcome, Goes, Ends, answered, host_end, is_marked, call_host, kept as kept_registers}
 use Rattle.lg_meaning.specs.Steps.{Undefined as NoStep}
 use Rattle.lg_meaning.specs.Texts.{text, step_at, step}
 use Rattle.lg_meaning.specs.Fits.{is_call}
 use Rattle.lg_meaning.proofs.HostFacts.{Writes, host_writes}
 use Rattle.lg_meaning.proofs.OpenFacts.{open_grown, open_given}
 use Rattle.lg_live.specs.Uses.{is_written}
-use Rattle.lg_carry.specs.Homes.{homes_at}
-use Rattle.lg_carry.proofs.OfNodes.HomesLemmas.{next-homes, call-no-epilog}
-use Rattle.lg_carry.specs.FinalNodes.{Code, is_inside}
+use Rattle.lg_carry.proofs.OfNodes.HomesLemmas.{next-function, call-no-epilog}
+use Rattle.lg_carry.specs.FinalNodes.{Code, is_inside, function_at}
 use Rattle.lg_carry.specs.Frames.{at_call}
 use Rattle.lg_carry.specs.Places.{AreStacked}
 use Rattle.lg_carry.specs.Processors.{IsSeen}
@@ -279,7 +278,7 @@ module _ {Q I : Type 0} (R : Rows Q I) (ready : HostName → (ℕ → ℕ) → B
           here = ans.here ∙ ap (λ j. c.place (j + 1)) (sym at);
           before = before R c i n S inside live s out q at st;
           behind = ap (λ j. is_inside c (j + 1)) at ∙ next;
-          homes = ap (λ j. homes_at c (j + 1)) at ∙ next-homes c i n t inside (call-no-epilog n.op calls) ∙ sym (ap (homes_at c) at);
+          function = ap (λ j. function_at c (j + 1)) at ∙ next-function c i n t inside (call-no-epilog n.op calls) ∙ sym (ap (function_at c) at);
           frame = refl;
           callers = refl;
           pointer = ans.kept (frame_register target) (kept-frame target) (conventions-apart target).pointers ∙ arr.frame;
@@ -320,8 +319,8 @@ module _ {Q I : Type 0} (R : Rows Q I) (ready : HostName → (ℕ → ℕ) → B
       by (Gives v d to xs) e = inr (answers v d to xs e)
       by (Exits status) e =
           let x = hosts.exits u name low (c.place (i + 1)) status arrived (answer (Exits status) e tt) in
-          inr (leads (Ends status) (steps ∙ ap (host_end s) e)
-          (x.0, x.1 ∙ wrote, record { bytes = λ a lt. x.2.bytes a lt ∙ below-same a lt; mark = x.2.mark ∙ arr.mark }))
+          inr (leads (Ends (Exited status)) (steps ∙ ap (host_end s) e)
+          (x.0, x.1 ∙ wrote, record { bytes = λ a lt. x.2.bytes a lt ∙ below-same a lt; mark = x.2.mark ∙ arr.mark }, (name, ap host_by_address x.3 ∙ arrived.entry)))
       by Undefined e = inl (steps ∙ ap (host_end s) e)
 
 -- ---- the nodes

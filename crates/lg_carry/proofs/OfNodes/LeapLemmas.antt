@@ -20,9 +20,8 @@ use Rattle.lg_meaning.specs.States.{Frame, State}
 use Rattle.lg_meaning.specs.Steps.{Goes, to}
 use Rattle.lg_meaning.specs.Texts.{step}
 use Rattle.lg_meaning.proofs.NodeFacts.{inside_one}
-use Rattle.lg_carry.specs.Homes.{homes_at}
-use Rattle.lg_carry.proofs.OfNodes.HomesLemmas.{homes-same}
-use Rattle.lg_carry.specs.FinalNodes.{Code, is_inside}
+use Rattle.lg_carry.proofs.OfNodes.HomesLemmas.{function-same}
+use Rattle.lg_carry.specs.FinalNodes.{Code, is_inside, function_at}
 use Rattle.lg_carry.specs.Frames.{at_call}
 use Rattle.lg_carry.specs.Stands.{StatesAgree, Stands}
 use Rattle.lg_carry.specs.Carries.{moves_at, KeepsOutside, Leads}
@@ -58,7 +57,8 @@ pub record Lands (c : Code) (i : ℕ) (l : Label) : Type 0 where
   pub node : ℕ
   pub place : place_of c.nodes.places l ≡ Some (place.Node node)
   pub side : is_inside c node ≡ is_inside c i
-  pub level : is_inside c i ≡ true → homes_at c node ≡ homes_at c i
+  pub level : is_inside c i ≡ true → function_at c node ≡ function_at c i
+  pub entry : is_inside c i ≡ false → home c.nodes.nodes node ≡ Some node
 
 pub inner-is : (o : Option ℕ) (k p : ℕ) → o ≡ Some p → p ≢ k → is_inner o k ≡ true
 inner-is o k p e ne = subst (λ x. is_inner x k ≡ true) (sym e) (grind (arith, ne))
@@ -70,8 +70,8 @@ pub jump-lands : (c : Code) (i : ℕ) (n : Node) → IsInText c i n → (l : Lab
 jump-lands c i n t l inside h = by (home c.nodes.nodes i) refl h
   where
     by : (o : Option ℕ) → home c.nodes.nodes i ≡ o → JumpsTo c.nodes o (place_of c.nodes.places l) → Lands c i l
-    by (Some p) e h = record { node = h.node; place = h.place; side = inner-is (home c.nodes.nodes h.node) h.node p h.inside (λ z. absurd (omega (arith, z, h.behind))) ∙ sym (inside p e); level = λ z. homes-same c i n t i h.node p e h.inside }
-    by None e h = record { node = h.node; place = h.place; side = outer-is (home c.nodes.nodes h.node) h.node h.entry ∙ sym (ap (λ o. is_inner o i) e); level = λ z. let y : false ≡ true = sym (ap (λ o. is_inner o i) e) ∙ z in cc }
+    by (Some p) e h = record { node = h.node; place = h.place; side = inner-is (home c.nodes.nodes h.node) h.node p h.inside (λ z. absurd (omega (arith, z, h.behind))) ∙ sym (inside p e); level = λ z. function-same c i n t i h.node p e h.inside; entry = λ z. let y : true ≡ false = sym (inside p e) ∙ z in cc }
+    by None e h = record { node = h.node; place = h.place; side = outer-is (home c.nodes.nodes h.node) h.node h.entry ∙ sym (ap (λ o. is_inner o i) e); level = λ z. let y : false ≡ true = sym (ap (λ o. is_inner o i) e) ∙ z in cc; entry = λ z. h.entry }
 
 -- ---- in the text
 module _ (c : Code) (i : ℕ) (n : Node) (t : IsInText c i n) where
@@ -146,7 +146,7 @@ module _ {Q I : Type 0} (R : Rows Q I) (scratch : ℕ → Bool) (fits : I → Ty
   -- the node goes to another one, where the registers are these
   pub way-leads : (S S' : ℕ → Bool) → IsStill target n.op → is_inside c i ≡ true → (live : Frame → ℕ → Bool) (s : State) (out : List ℕ) (q : Q) → s.at ≡ i → Stands R.processor c live s out q S
       → (regs : ℕ → Option ℕ) (w : ℕ → ℕ) → HoldsRegisters target w regs S' → HoldsArguments target w s.pushed → w (frame_register target) ≡ (R.processor.seen q).registers (frame_register target) → w (stack_register target) ≡ (R.processor.seen q).registers (stack_register target)
-      → (k : ℕ) → is_inside c k ≡ true → homes_at c k ≡ homes_at c i → step c.nodes c.shape c.addresses s ≡ Goes (to (record s { regs = regs }) k) [] → Way R.processor scratch (c.place i) high w (c.place k) q
+      → (k : ℕ) → is_inside c k ≡ true → function_at c k ≡ function_at c i → step c.nodes c.shape c.addresses s ≡ Goes (to (record s { regs = regs }) k) [] → Way R.processor scratch (c.place i) high w (c.place k) q
       → Leads R.processor c live (live_behind live n S' s) i (step c.nodes c.shape c.addresses s) out q
   way-leads S S' plain inside live s out q here st regs w held passed pointer stack k side level goes' way =
       let apart = conventions-apart target in
@@ -161,7 +161,7 @@ module _ {Q I : Type 0} (R : Rows Q I) (scratch : ℕ → Bool) (fits : I → Ty
         here = way.here;
         before = ap (is_inside c) here ∙ inside;
         behind = side;
-        homes = level ∙ sym (ap (homes_at c) here);
+        function = level ∙ sym (ap (function_at c) here);
         frame = refl;
         callers = refl;
         pointer = way.registers (frame_register target) (scratch-off _ (λ e. (isa.apart (frame_register target) e).pointer refl)) (λ e. (apart.carry (frame_register target) e).pointer refl) ∙ pointer;

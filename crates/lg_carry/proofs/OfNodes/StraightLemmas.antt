@@ -42,9 +42,8 @@ use Rattle.lg_temp.specs.Chosen.{Around, around, stands_in, staged_in, is_busy}
 use Rattle.lg_base.specs.declared.flags.Flags.{Flags}
 use Rattle.lg_base.specs.Flags.{carry_of}
 use Rattle.lg_carry.specs.AgreeInFrame.{StaysInFrame}
-use Rattle.lg_carry.specs.FinalNodes.{Code, is_inside}
-use Rattle.lg_carry.specs.Homes.{homes_at}
-use Rattle.lg_carry.proofs.OfNodes.HomesLemmas.{homes-same}
+use Rattle.lg_carry.specs.FinalNodes.{Code, is_inside, function_at}
+use Rattle.lg_carry.proofs.OfNodes.HomesLemmas.{function-same}
 use Rattle.lg_carry.specs.Places.{AreStacked}
 use Rattle.lg_carry.specs.Processors.{Seen, is_below, stack_of}
 use Rattle.lg_carry.specs.Registers.{HoldsCarry, CarryIs}
@@ -402,7 +401,7 @@ module _ {Q I : Type 0} (R : Rows Q I) (scratch : ℕ → Bool) (fits : I → Ty
           here = leaves.behind ∙ ap (λ z. z + length (spellings R.spelling is)) here ∙ sym k.code.next ∙ ap (λ j. c.place (j + 1)) (sym at) ∙ ap c.place (sym next);
           before = inside;
           behind = ap (is_inside c) next ∙ ap (λ j. is_inside c (j + 1)) at ∙ (shaped c.nodes t.well).next i place.entry place.home (ap is_epilog_at t.here ∙ no-epilog n.op falls);
-          homes = ap (homes_at c) next ∙ ap (λ j. homes_at c (j + 1)) at ∙ homes-same c i n t i (i + 1) place.entry place.home (t.well.falls i place.entry place.home (ap is_epilog_at t.here ∙ no-epilog n.op falls)).0 ∙ sym (ap (homes_at c) at);
+          function = ap (function_at c) next ∙ ap (λ j. function_at c (j + 1)) at ∙ function-same c i n t i (i + 1) place.entry place.home (t.well.falls i place.entry place.home (ap is_epilog_at t.here ∙ no-epilog n.op falls)).0 ∙ sym (ap (function_at c) at);
           frame = frame;
           callers = callers;
           pointer = kept-other (frame_register target) other-frame (unspoilt choices (is_taken choices) (frame_register target) frame-untaken);

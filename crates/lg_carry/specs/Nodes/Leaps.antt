@@ -184,4 +184,4 @@ pub record EntersHosts {Q : Type 0} (P : Processor Q) (ready : HostName → (ℕ
       → host_answer P name stack q ≡ Gives v d to bytes → Answers P stack back v d to bytes q (P.machine.step q)
   pub exits : (q : Q) (name : HostName) (stack back status : ℕ) → HasArrived P ready stack back name q → host_answer P name stack q ≡ Exits status
       → (P.machine.status (P.machine.step q) ≡ Ended status) × (P.machine.out (P.machine.step q) ≡ P.machine.out q)
-      × KeepsMemory (P.seen q) (P.seen (P.machine.step q))
+      × KeepsMemory (P.seen q) (P.seen (P.machine.step q)) × ((P.seen (P.machine.step q)).pc ≡ (P.seen q).pc)

@@ -4,9 +4,9 @@ ghost use Rattle.std.specs.Prelude.{◌≡◌, ◌≤◌};
 ghost use Rattle.lg_base.specs.Flags.{negative_flag, zero_flag, carry_flag, overflow_flag};
 ghost use Rattle.lg_base.specs.Words.{is_negative, carry_out, borrow_out};
 ghost use Rattle.lg_cpu.specs.A64Operators.{result_flags, sum_leaves, difference_leaves, sum_of, difference_of, sum_flags, difference_flags};
-ghost use Rattle.lg_cpu.specs.A64Operators.{carry_word, borrow_word, condition_holds, reg_flags, imm_flags};
+ghost use Rattle.lg_cpu.specs.A64Operators.{condition_holds};
 
-use lg_a64::{Cond, ImmOp, RegOp};
+use lg_a64::Cond;
 use lg_base::Flags;
 use lg_base::word::SIGN_BIT;
 
@@ -36,7 +36,9 @@ fn zero_flag(flags: Flags) -> bool
     }
 }
 
-fn carry_flag(flags: Flags) -> bool
+/// C; the flags of other processors read as 0.
+#[inline(always)]
+pub fn carry_flag(flags: Flags) -> bool
     ensures { result ≡ carry_flag flags }
 {
     match flags {
@@ -54,8 +56,9 @@ fn overflow_flag(flags: Flags) -> bool
     }
 }
 
-// N and Z of a result, with C and V.
-fn result_flags(word: u64, carry: bool, overflow: bool) -> Flags
+/// N and Z of a result, with C and V.
+#[inline(always)]
+pub fn result_flags(word: u64, carry: bool, overflow: bool) -> Flags
     ensures { result ≡ result_flags word carry overflow }
 {
     Flags::Nzcv {
@@ -94,21 +97,27 @@ pub fn difference_of(a: u64, b: u64, borrow: u64) -> u64
     a.wrapping_sub(b).wrapping_sub(borrow)
 }
 
-fn carry_out(a: u64, b: u64, carry: u64) -> bool
+/// Whether a sum of two words and a carry of 0 or 1 does not fit a word.
+#[inline(always)]
+pub fn carry_out(a: u64, b: u64, carry: u64) -> bool
     requires { carry ≤ 1 }
     ensures { result ≡ carry_out a b carry }
 {
     u128::from(a) + u128::from(b) + u128::from(carry) >= 0x1_0000_0000_0000_0000
 }
 
-fn borrow_out(a: u64, b: u64, borrow: u64) -> bool
+/// Whether a difference of two words and a borrow of 0 or 1 is below 0.
+#[inline(always)]
+pub fn borrow_out(a: u64, b: u64, borrow: u64) -> bool
     requires { borrow ≤ 1 }
     ensures { result ≡ borrow_out a b borrow }
 {
     u128::from(a) < u128::from(b) + u128::from(borrow)
 }
 
-fn sum_flags(a: u64, b: u64, carry: u64) -> Flags
+/// The flags after a sum with a carry of 0 or 1.
+#[inline(always)]
+pub fn sum_flags(a: u64, b: u64, carry: u64) -> Flags
     requires { carry ≤ 1 }
     ensures { result ≡ sum_flags a b carry }
 {
@@ -118,7 +127,9 @@ fn sum_flags(a: u64, b: u64, carry: u64) -> Flags
     result_flags(sum, out, leaves)
 }
 
-fn difference_flags(a: u64, b: u64, borrow: u64) -> Flags
+/// The flags after a difference with a borrow of 0 or 1.
+#[inline(always)]
+pub fn difference_flags(a: u64, b: u64, borrow: u64) -> Flags
     requires { borrow ≤ 1 }
     ensures { result ≡ difference_flags a b borrow }
 {
@@ -128,23 +139,8 @@ fn difference_flags(a: u64, b: u64, borrow: u64) -> Flags
     result_flags(difference, !out, leaves)
 }
 
-/// C as a word: 0 or 1.
-pub fn carry_word(flags: Flags) -> u64
-    ensures word { result ≡ carry_word flags }
-    ensures small { result ≤ 1 }
-{
-    u64::from(carry_flag(flags))
-}
-
-/// C turned, the borrow, as a word: 0 or 1.
-pub fn borrow_word(flags: Flags) -> u64
-    ensures word { result ≡ borrow_word flags }
-    ensures small { result ≤ 1 }
-{
-    u64::from(!carry_flag(flags))
-}
-
 /// Whether a condition holds.
+#[inline(always)]
 pub fn condition_holds(cond: Cond, flags: Flags) -> bool
     ensures { result ≡ condition_holds cond flags }
 {
@@ -163,30 +159,5 @@ pub fn condition_holds(cond: Cond, flags: Flags) -> bool
         Cond::Lt => negative_flag(flags) != overflow_flag(flags),
         Cond::Gt => !zero_flag(flags) && negative_flag(flags) == overflow_flag(flags),
         Cond::Le => !(!zero_flag(flags) && negative_flag(flags) == overflow_flag(flags)),
-    }
-}
-
-/// The flags behind a row with three registers: of the words `a` in rn and `b` in rm, or as they were where the row sets none.
-pub fn reg_flags(op: RegOp, flags: Flags, a: u64, b: u64) -> Flags
-    ensures { result ≡ reg_flags op flags a b }
-{
-    match op {
-        RegOp::Adds => sum_flags(a, b, 0),
-        RegOp::Subs => difference_flags(a, b, 0),
-        RegOp::Adcs => sum_flags(a, b, carry_word(flags)),
-        RegOp::Sbcs => difference_flags(a, b, borrow_word(flags)),
-        RegOp::Ands => result_flags(a & b, false, false),
-        _ => flags,
-    }
-}
-
-/// The flags behind a row with a number: of the word `a` in rn and the number `n`, or as they were where the row sets none.
-pub fn imm_flags(op: ImmOp, flags: Flags, a: u64, n: u64) -> Flags
-    ensures { result ≡ imm_flags op flags a n }
-{
-    match op {
-        ImmOp::Addsi => sum_flags(a, n, 0),
-        ImmOp::Subsi => difference_flags(a, n, 0),
-        ImmOp::Addi | ImmOp::Subi => flags,
     }
 }

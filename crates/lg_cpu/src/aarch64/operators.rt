@@ -1,13 +1,13 @@
 // What the instructions compute.
 
-ghost use Rattle.std.specs.Prelude.{◌≡◌, ◌<◌, ◌*◌, ◌^◌};
-ghost use Rattle.lg_cpu.specs.A64Operators.{divided, divided_signed, reg_value, imm_number, imm_value, quarter, replaced, wide_value, mul_add_value};
+ghost use Rattle.std.specs.Prelude.{◌≡◌, ◌<◌, ◌*◌, ◌^◌, true};
+ghost use Rattle.lg_cpu.specs.A64Operators.{divided, divided_signed, reg_value, imm_number, quarter, replaced, wide_value, mul_add_value};
 ghost use Rattle.lg_cpu.specs.A64Operators.{csinc_value, reverse_value};
+ghost use Rattle.lg_cpu.specs.A64Groups.{is_plain};
+ghost use Rattle.lg_base.specs.declared.flags.Flags.{Flags};
 ghost use Rattle.lg_a64.specs.declared.instruction.ReverseOp.{ReverseOp};
 
-use crate::aarch64::flags::{borrow_word, carry_word, difference_of, sum_of};
-use lg_a64::{ImmOp, MulAddOp, RegOp, ReverseOp, WideOp};
-use lg_base::Flags;
+use lg_a64::{MulAddOp, RegOp, ReverseOp, WideOp};
 use lg_base::wide::{mul_high, mul_high_u, swap_bytes};
 use lg_base::word::{divide_signed, shift_right_signed};
 
@@ -23,18 +23,13 @@ fn divided_signed(a: u64, b: u64) -> u64
     if b == 0 { 0 } else { divide_signed(a, b) }
 }
 
-/// What a row with three registers makes of the words in two of them.
-pub fn reg_value(op: RegOp, flags: Flags, a: u64, b: u64) -> u64
-    ensures { result ≡ reg_value op flags a b }
+/// What a row with three registers that is plain makes of the words in two of them, whatever the flags are.
+#[inline(always)]
+pub fn plain_value(op: RegOp, a: u64, b: u64) -> u64
+    requires { is_plain op ≡ true }
+    ensures { (flags : Flags) → result ≡ reg_value op flags a b }
 {
     match op {
-        RegOp::Add | RegOp::Adds => a.wrapping_add(b),
-        RegOp::Sub | RegOp::Subs => a.wrapping_sub(b),
-        RegOp::Adc | RegOp::Adcs => sum_of(a, b, carry_word(flags)),
-        RegOp::Sbc | RegOp::Sbcs => difference_of(a, b, borrow_word(flags)),
-        RegOp::And | RegOp::Ands => a & b,
-        RegOp::Orr => a | b,
-        RegOp::Eor => a ^ b,
         RegOp::Orn => a | !b,
         RegOp::Smulh => mul_high(a.cast_signed(), b.cast_signed()).cast_unsigned(),
         RegOp::Umulh => mul_high_u(a, b),
@@ -43,10 +38,12 @@ pub fn reg_value(op: RegOp, flags: Flags, a: u64, b: u64) -> u64
         RegOp::Lslv => a << (b % 64),
         RegOp::Lsrv => a >> (b % 64),
         RegOp::Asrv => shift_right_signed(a, (b % 64) as u32),
+        _ => 0,
     }
 }
 
 /// The number `imm` of 12 bits, or 4,096 times it where it is shifted.
+#[inline(always)]
 pub fn imm_number(imm: u16, shifted: bool) -> u64
     ensures { result ≡ imm_number imm shifted }
 {
@@ -54,16 +51,6 @@ pub fn imm_number(imm: u16, shifted: bool) -> u64
         u64::from(imm) * 4096
     } else {
         u64::from(imm)
-    }
-}
-
-/// What a row with a number makes of a word.
-pub fn imm_value(op: ImmOp, a: u64, n: u64) -> u64
-    ensures { result ≡ imm_value op a n }
-{
-    match op {
-        ImmOp::Addi | ImmOp::Addsi => a.wrapping_add(n),
-        ImmOp::Subi | ImmOp::Subsi => a.wrapping_sub(n),
     }
 }
 

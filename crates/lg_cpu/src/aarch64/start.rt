@@ -4,7 +4,10 @@ ghost use Rattle.std.specs.Prelude.{◌≡◌, slice_index};
 ghost use Rattle.lg_cpu.specs.A64Step.{start_registers, trash_flags};
 
 use crate::aarch64::Aarch64;
+use crate::aarch64::lazy_flags::LazyFlags;
 use crate::board::{Board, STOP, trash_registers};
+use crate::decode_cache::DecodeCache;
+use lg_a64::Instr;
 use lg_base::Flags;
 use lg_base::layout::CODE_BASE;
 
@@ -43,14 +46,16 @@ impl Aarch64 {
     ghost use Rattle.lg_cpu.specs.Machines.{begun, a64_state, a64_inner};
 
     /// The processor before its first step, with the number of arguments.
-    pub fn new(board: Board, count: u64) -> Aarch64
+    pub fn new(code: DecodeCache<Instr>, board: Board, count: u64) -> Aarch64
         ensures state { a64_state result ≡ begins count board.trash (byte_at board.memory) board.heap }
+        ensures code { result.code ≡ code }
         ensures board { result.board ≡ board }
     {
         Aarch64 {
             pc: CODE_BASE,
-            flags: trash_flags(board.trash),
+            flags: LazyFlags::of(trash_flags(board.trash)),
             registers: registers_at_start(count, board.trash),
+            code,
             board,
         }
     }
@@ -61,6 +66,6 @@ impl Aarch64 {
     {
         self.pc = CODE_BASE;
         self.registers = registers_at_start(count, self.board.trash);
-        self.flags = trash_flags(self.board.trash);
+        self.flags.set(trash_flags(self.board.trash));
     }
 }

@@ -50,7 +50,9 @@ fn register_arguments(registers: &[u64; 32]) -> Arguments
 }
 
 impl Riscv64 {
-    ghost use Rattle.std.specs.Prelude.{false};
+    ghost use Rattle.std.specs.Prelude.{◌-◌, ◌%◌, ◌==◌, drop, true, false, None};
+    ghost use Rattle.lg_base.specs.Layout.{code_base};
+    ghost use Rattle.lg_rv.specs.Reading.{front_of};
     ghost use Rattle.lg_cpu.specs.RvStep.{goes, enter_host};
     ghost use Rattle.lg_cpu.specs.Fetches.{in_code};
     ghost use Rattle.lg_cpu.specs.Machines.{rv_state, rv_inner, effect_in, Does, StepSays};
@@ -103,7 +105,7 @@ impl Riscv64 {
     // are short without it.
     #[inline(never)]
     fn step_outside<O: Sink>(&mut self, out: &mut O) -> CpuStep
-        requires { in_code self.old.board.code.items self.old.pc ≡ false }
+        requires { in_code self.old.code self.old.pc ≡ false }
         ensures says { StepSays (effect_in (rv_inner self.old)) (rv_inner self.old) (rv_inner self.new)
             (O.taken out.old) (O.taken out.new) (O.faults out.old) (O.faults out.new) result }
         ensures later { O.faults out.old ≤ O.faults out.new }
@@ -115,16 +117,38 @@ impl Riscv64 {
         }
     }
 
+    // Takes a step where no instruction is read: faults, or runs a host function. What it comes to goes through a reference: a result would meet that
+    // of an instruction, and the compiler would test both again after each step.
+    #[inline(never)]
+    fn step_elsewhere<O: Sink>(&mut self, out: &mut O, answer: &mut CpuStep)
+        requires { in_code self.old.code self.old.pc ≡ true → (self.old.pc % 4 == 0) ≡ true → front_of (drop (self.old.pc - code_base) self.old.code) ≡ None }
+        ensures says { StepSays (effect_in (rv_inner self.old)) (rv_inner self.old) (rv_inner self.new)
+            (O.taken out.old) (O.taken out.new) (O.faults out.old) (O.faults out.new) answer.new }
+        ensures later { O.faults out.old ≤ O.faults out.new }
+    {
+        *answer = if !self.code.is_code(self.pc) {
+            self.step_outside(out)
+        } else if self.pc % 4 == 0 {
+            CpuStep::Fault(FaultKind::Decode)
+        } else {
+            CpuStep::Fault(FaultKind::Align)
+        };
+    }
+
     /// Takes one step, whether the run is over or not.
+    #[inline(always)]
     pub fn step<O: Sink>(&mut self, out: &mut O) -> CpuStep
         ensures says { StepSays (effect_in (rv_inner self.old)) (rv_inner self.old) (rv_inner self.new)
             (O.taken out.old) (O.taken out.new) (O.faults out.old) (O.faults out.new) result }
         ensures later { O.faults out.old ≤ O.faults out.new }
     {
-        if self.board.is_code(self.pc) {
-            self.fetch()
-        } else {
-            self.step_outside(out)
+        match self.code.find(self.pc) {
+            Some((instr, len)) => self.execute(instr, len),
+            None => {
+                let mut answer = CpuStep::Went;
+                self.step_elsewhere(out, &mut answer);
+                answer
+            }
         }
     }
 }

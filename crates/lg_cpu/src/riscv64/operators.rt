@@ -46,6 +46,7 @@ fn left_over_signed(a: u64, b: u64) -> u64
 }
 
 /// What a row with two source registers makes of the words in them.
+#[inline(always)]
 pub fn reg_value(op: RegOp, a: u64, b: u64) -> u64
     ensures { result ≡ reg_value op a b }
 {
@@ -82,6 +83,7 @@ pub fn reg_value(op: RegOp, a: u64, b: u64) -> u64
 }
 
 /// What a shift by a number makes of a word.
+#[inline(always)]
 pub fn shift_value(op: ShiftOp, a: u64, amount: u8) -> u64
     ensures { result ≡ shift_value op a amount }
 {
@@ -97,6 +99,7 @@ pub fn shift_value(op: ShiftOp, a: u64, amount: u8) -> u64
 }
 
 /// Whether a branch is taken.
+#[inline(always)]
 pub fn is_taken(op: BranchOp, a: u64, b: u64) -> bool
     ensures { result ≡ is_taken op a b }
 {

@@ -4,8 +4,10 @@ ghost use Rattle.std.specs.Prelude.{◌≡◌, slice_index};
 ghost use Rattle.lg_cpu.specs.RvStep.{start_registers};
 
 use crate::board::{Board, STOP, trash_registers};
+use crate::decode_cache::DecodeCache;
 use crate::riscv64::Riscv64;
 use lg_base::layout::CODE_BASE;
+use lg_rv::Instr;
 
 // the first address of the argument part, and the address behind the stack
 const ARGS: u64 = 0x2800_0000;
@@ -30,13 +32,15 @@ impl Riscv64 {
     ghost use Rattle.lg_cpu.specs.Machines.{begun, rv_state, rv_inner};
 
     /// The processor before its first step, with the number of arguments.
-    pub fn new(board: Board, count: u64) -> Riscv64
+    pub fn new(code: DecodeCache<Instr>, board: Board, count: u64) -> Riscv64
         ensures state { rv_state result ≡ begins count board.trash (byte_at board.memory) board.heap }
+        ensures code { result.code ≡ code }
         ensures board { result.board ≡ board }
     {
         Riscv64 {
             pc: CODE_BASE,
             registers: registers_at_start(count, board.trash),
+            code,
             board,
         }
     }

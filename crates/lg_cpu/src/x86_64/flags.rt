@@ -3,13 +3,13 @@
 ghost use Rattle.std.specs.Prelude.{◌≡◌, ◌<◌, ◌≢◌};
 ghost use Rattle.lg_base.specs.Words.{carry_out, borrow_out, differ};
 ghost use Rattle.lg_cpu.specs.X86Operators.{overflow_of, zero_of, sign_of, no_flags, flags_of, bit, overflows_sum, overflows_difference};
-ghost use Rattle.lg_cpu.specs.X86Operators.{sum_flags, difference_flags, bit_flags, product_flags, reg_rm_flags, negation_flags};
+ghost use Rattle.lg_cpu.specs.X86Operators.{sum_flags, difference_flags, bit_flags, product_flags, negation_flags};
 ghost use Rattle.lg_cpu.specs.X86Operators.{last_out, shift_overflow, shift_flags, turned, both, either, condition_holds};
 
-use crate::x86_64::operators::{needs_high_signed, shift_value};
+use crate::x86_64::operators::shift_value;
 use lg_base::Flags;
 use lg_base::word::SIGN_BIT;
-use lg_x86::{Cond, RegRmOp, ShiftOp};
+use lg_x86::{Cond, ShiftOp};
 
 // OF, ZF and SF, where they are defined; the flags of other processors read as undefined.
 fn overflow_of(flags: Flags) -> Option<bool>
@@ -63,13 +63,17 @@ fn flags_of(carry: Option<bool>, overflow: Option<bool>, result_word: u64) -> Fl
     }
 }
 
-fn carry_out(a: u64, b: u64, carry: bool) -> bool
+/// Whether a sum of two words and a carry does not fit a word.
+#[inline(always)]
+pub fn carry_out(a: u64, b: u64, carry: bool) -> bool
     ensures { result ≡ carry_out a b (bit carry) }
 {
     a as u128 + b as u128 + u128::from(carry) >= 0x1_0000_0000_0000_0000
 }
 
-fn borrow_out(a: u64, b: u64, carry: bool) -> bool
+/// Whether a difference of two words and a borrow is below 0.
+#[inline(always)]
+pub fn borrow_out(a: u64, b: u64, carry: bool) -> bool
     ensures { result ≡ borrow_out a b (bit carry) }
 {
     (a as u128) < b as u128 + u128::from(carry)
@@ -96,6 +100,7 @@ fn overflows_difference(a: u64, b: u64, difference: u64) -> bool
 }
 
 /// The flags behind a sum with a carry.
+#[inline(always)]
 pub fn sum_flags(a: u64, b: u64, carry: bool, sum: u64) -> Flags
     ensures { result ≡ sum_flags a b (bit carry) sum }
 {
@@ -107,6 +112,7 @@ pub fn sum_flags(a: u64, b: u64, carry: bool, sum: u64) -> Flags
 }
 
 /// The flags behind a difference with a borrow.
+#[inline(always)]
 pub fn difference_flags(a: u64, b: u64, carry: bool, difference: u64) -> Flags
     ensures { result ≡ difference_flags a b (bit carry) difference }
 {
@@ -118,6 +124,7 @@ pub fn difference_flags(a: u64, b: u64, carry: bool, difference: u64) -> Flags
 }
 
 /// The flags behind an operation on bits: neither carry nor overflow.
+#[inline(always)]
 pub fn bit_flags(bits: u64) -> Flags
     ensures { result ≡ bit_flags bits }
 {
@@ -133,16 +140,6 @@ pub fn product_flags(needed: bool) -> Flags
         zero: None,
         carry: Some(needed),
         overflow: Some(needed),
-    }
-}
-
-/// The flags behind a row that makes a register of `a` in `reg` and `b` in `rm`; only imul sets them.
-pub fn reg_rm_flags(op: RegRmOp, flags: Flags, a: u64, b: u64) -> Flags
-    ensures { result ≡ reg_rm_flags op flags a b }
-{
-    match op {
-        RegRmOp::Imul => product_flags(needs_high_signed(a, b)),
-        _ => flags,
     }
 }
 
@@ -223,6 +220,7 @@ fn differ(a: Option<bool>, b: Option<bool>) -> Option<bool>
 }
 
 /// Whether a condition holds, and None where a flag that it names is undefined.
+#[inline(always)]
 pub fn condition_holds(cond: Cond, flags: Flags) -> Option<bool>
     ensures { result ≡ condition_holds cond flags }
 {

@@ -73,7 +73,9 @@ fn takes_al(name: HostName, a: u64) -> bool
 }
 
 impl X86_64 {
-    ghost use Rattle.std.specs.Prelude.{false};
+    ghost use Rattle.std.specs.Prelude.{◌-◌, ◌%◌, ◌==◌, drop, true, false, None};
+    ghost use Rattle.lg_base.specs.Layout.{code_base};
+    ghost use Rattle.lg_x86.specs.Reading.{front_of};
     ghost use Rattle.lg_cpu.specs.Fetches.{in_code};
     ghost use Rattle.lg_cpu.specs.States.{arrives};
     ghost use Rattle.lg_cpu.specs.X86Operators.{no_flags};
@@ -96,7 +98,7 @@ impl X86_64 {
     {
         let stack = self.registers[4].wrapping_add(8);
         self.registers = registers_behind_return(&self.registers, self.board.trash, answer, stack);
-        self.flags = no_flags();
+        self.flags.set(no_flags());
         self.go(link)
     }
 
@@ -144,7 +146,7 @@ impl X86_64 {
     // are short without it.
     #[inline(never)]
     fn step_outside<O: Sink>(&mut self, out: &mut O) -> CpuStep
-        requires { in_code self.old.board.code.items self.old.pc ≡ false }
+        requires { in_code self.old.code self.old.pc ≡ false }
         ensures says { StepSays (effect_in (x86_inner self.old)) (x86_inner self.old) (x86_inner self.new)
             (O.taken out.old) (O.taken out.new) (O.faults out.old) (O.faults out.new) result }
         ensures later { O.faults out.old ≤ O.faults out.new }
@@ -155,17 +157,36 @@ impl X86_64 {
         }
     }
 
-    /// Takes one step, whether the run is over or not. In a function of its own it keeps the step of the processor beside it short.
+    // Takes a step where no instruction is read: faults, or runs a host function. What it comes to goes through a reference: a result would meet that
+    // of an instruction, and the compiler would test both again after each step.
     #[inline(never)]
+    fn step_elsewhere<O: Sink>(&mut self, out: &mut O, answer: &mut CpuStep)
+        requires { in_code self.old.code self.old.pc ≡ true → front_of (drop (self.old.pc - code_base) self.old.code) ≡ None }
+        ensures says { StepSays (effect_in (x86_inner self.old)) (x86_inner self.old) (x86_inner self.new)
+            (O.taken out.old) (O.taken out.new) (O.faults out.old) (O.faults out.new) answer.new }
+        ensures later { O.faults out.old ≤ O.faults out.new }
+    {
+        *answer = if self.code.is_code(self.pc) {
+            CpuStep::Fault(FaultKind::Decode)
+        } else {
+            self.step_outside(out)
+        };
+    }
+
+    /// Takes one step, whether the run is over or not.
+    #[inline(always)]
     pub fn step<O: Sink>(&mut self, out: &mut O) -> CpuStep
         ensures says { StepSays (effect_in (x86_inner self.old)) (x86_inner self.old) (x86_inner self.new)
             (O.taken out.old) (O.taken out.new) (O.faults out.old) (O.faults out.new) result }
         ensures later { O.faults out.old ≤ O.faults out.new }
     {
-        if self.board.is_code(self.pc) {
-            self.fetch()
-        } else {
-            self.step_outside(out)
+        match self.code.find(self.pc) {
+            Some((instr, len)) => self.execute(instr, len),
+            None => {
+                let mut answer = CpuStep::Went;
+                self.step_elsewhere(out, &mut answer);
+                answer
+            }
         }
     }
 }

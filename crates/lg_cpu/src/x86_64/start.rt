@@ -4,9 +4,12 @@ ghost use Rattle.std.specs.Prelude.{◌≡◌, ◌-◌, length, slice_index, if�
 ghost use Rattle.lg_cpu.specs.X86Step.{start_registers};
 
 use crate::board::{Board, STOP};
+use crate::decode_cache::DecodeCache;
 use crate::x86_64::X86_64;
 use crate::x86_64::flags::no_flags;
+use crate::x86_64::lazy_flags::LazyFlags;
 use lg_base::layout::CODE_BASE;
+use lg_x86::Instr;
 
 // the first address of the argument part, and the address of the return address of the first function
 const ARGS: u64 = 0x2800_0000;
@@ -42,16 +45,17 @@ impl X86_64 {
     ghost use Rattle.lg_base.specs.declared.target.Target.{Target};
 
     /// The processor before its first step, with the number of arguments; the stop address stands at the stack pointer.
-    pub fn new(board: Board, count: u64) -> X86_64
+    pub fn new(code: DecodeCache<Instr>, board: Board, count: u64) -> X86_64
         requires stack { mapped (byte_at board.memory) (return_word stack_end) 8 ≡ true }
-        ensures { x86_inner result ≡ inner_of Target.X86_64 (begins count board.trash (byte_at board.memory) board.heap) board }
+        ensures { x86_inner result ≡ inner_of Target.X86_64 (begins count board.trash (byte_at board.memory) board.heap) code board }
     {
         let mut board = board;
         board.memory.store(RETURN, 8, STOP);
         X86_64 {
             pc: CODE_BASE,
             registers: registers_at_start(count, board.trash),
-            flags: no_flags(),
+            flags: LazyFlags::of(no_flags()),
+            code,
             board,
         }
     }
@@ -65,6 +69,6 @@ impl X86_64 {
         self.board.memory.store(RETURN, 8, STOP);
         self.pc = CODE_BASE;
         self.registers = registers_at_start(count, self.board.trash);
-        self.flags = no_flags();
+        self.flags.set(no_flags());
     }
 }

@@ -18,7 +18,7 @@ use Rattle.lg_op.specs.declared.operand.Operand.TheVariants as operand
 use Rattle.lg_op.specs.declared.node.Node.{Node}
 use Rattle.lg_node.specs.Functions.{is_prolog_at}
 use Rattle.lg_meaning.proofs.FunctionFacts.{function_at_home}
-use Rattle.lg_carry.specs.FinalNodes.{Code}
+use Rattle.lg_carry.specs.FinalNodes.{Code, saved_at}
 use Rattle.lg_carry.specs.Homes.{homes_at, IsHomesOf}
 use Rattle.lg_carry.specs.NodeCode.{CarriesNode}
 use Rattle.lg_carry.proofs.OfNodes.CallLemmas.{calls-carry, finishes-carry}
@@ -73,7 +73,7 @@ host-small host.Strcmp = omega arith
 module _ {Q I : Type 0} (R : Rows Q I) (scratch : ℕ → Bool) (fits : I → Type 0) (ready : HostName → (ℕ → ℕ) → Bool) (saved : ℕ) (C : Codes I)
     (T : Controls R scratch fits ready saved C)
     (c : Code) (i frame homes line : ℕ) (S : ℕ → Bool) (w : HasPlaces R c) (is-frame : IsFrameOf c i frame) (is-homes : IsHomesOf c i homes)
-    (is-saved : c.saved ≡ saved) where
+    (is-saved : saved_at c i ≡ saved) where
   abbrev node : Op → List Operand → Node
   node o xs = record { op = o; operands = xs; line = line }
 

@@ -160,6 +160,7 @@ module _ (target : Target) (effect : CpuState → Effect CpuState) (flags_seen :
           ap (λ (r : Run CpuState). status_of r.progress) z,
           ap (λ (r : Run CpuState). r.out) z ∙ append-nil q.out,
           record { bytes = λ a lt. ap (λ (r : Run CpuState). r.state.bytes a) z; mark = ap (λ (r : Run CpuState). r.state.mark) z },
+          ap (λ (r : Run CpuState). r.state.pc) z,
         );
   }
     where

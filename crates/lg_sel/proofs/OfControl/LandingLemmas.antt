@@ -13,10 +13,9 @@ use Rattle.lg_meaning.specs.Steps.{later, landing, last_landing, is_behind, is_t
 use Rattle.lg_meaning.specs.Texts.{text}
 use Rattle.lg_meaning.proofs.FunctionFacts.{function_at_home}
 use Rattle.lg_meaning.proofs.NodeFacts.{function_found}
-use Rattle.lg_carry.specs.FinalNodes.{Code, is_inside}
-use Rattle.lg_carry.specs.Homes.{homes_at}
+use Rattle.lg_carry.specs.FinalNodes.{Code, is_inside, function_at}
 use Rattle.lg_carry.specs.TextNodes.{IsInText}
-use Rattle.lg_carry.proofs.OfNodes.HomesLemmas.{inside-home, homes-same}
+use Rattle.lg_carry.proofs.OfNodes.HomesLemmas.{inside-home, function-same}
 use Rattle.lg_carry.proofs.OfNodes.LeapLemmas.{inner-is}
 
 -- ---- where a word leads
@@ -124,13 +123,13 @@ module _ (c : Code) (i : ℕ) (n : Node) (t : IsInText c i n) where
       let lt = b.behind in
       inner-is (home c.nodes.nodes k) k b.function.entry b.home_is (λ z. absurd (omega (arith, z, lt)))
 
-  -- and its function reads as many homes
-  pub target-homes : (at w k : ℕ) → jump_target T at w ≡ Some k → is_inside c at ≡ true → homes_at c k ≡ homes_at c at
-  target-homes at w k h inside =
+  -- in the same function
+  pub target-function : (at w k : ℕ) → jump_target T at w ≡ Some k → is_inside c at ≡ true → function_at c k ≡ function_at c at
+  target-function at w k h inside =
       let b = target-behind at w k h in
       let from = inside-home (home c.nodes.nodes at) at inside in
       let f = function_at_home c.nodes c.shape t.functions t.shape.functions at from.0 from.1 in
-      homes-same c i n t at k from.0 from.1 (b.home_is ∙ ap Some (same-entry f.0 b.function (sym f.1.here ∙ b.here) ∙ f.1.entry))
+      function-same c i n t at k from.0 from.1 (b.home_is ∙ ap Some (same-entry f.0 b.function (sym f.1.here ∙ b.here) ∙ f.1.entry))
     where
       same-entry : (f g : Function) → Some f ≡ Some g → g.entry ≡ f.entry
       same-entry f g e = let same : f ≡ g = cc in ap (λ (x : Function). x.entry) (sym same)

@@ -1,6 +1,6 @@
 -- A `prolog` is carried by code that makes the frame.
 use Rattle.std.proofs.Common.{◌≡◌, ℕ, ◌+◌, ◌%◌, ◌<◌, ◌≤◌, inr, Bool, false, List, [], ◌∷◌, Option, Some, None, refl, sym, ap, ◌∙◌, subst, arith, append-nil, true}
-use Rattle.std.specs.Prelude.{slice_get}
+use Rattle.std.specs.Prelude.{◌==◌, slice_get, if◌then◌else◌}
 use Rattle.lg_carry.proofs.TurnLemmas.{sinking-turns}
 use Rattle.lg_base.specs.Conventions.{portable_register, frame_register}
 use Rattle.lg_base.specs.Layout.{frame_pointer, saved_word, least_frame, stack_end}
@@ -9,14 +9,14 @@ use Rattle.lg_op.specs.declared.node.Node.{Node}
 use Rattle.lg_node.specs.declared.function.Function.{Function}
 use Rattle.lg_node.specs.Functions.{home, is_prolog_at, is_epilog_at, frame_of}
 use Rattle.lg_node.specs.Preparations.{prepared_before}
-use Rattle.lg_meaning.specs.Fits.{AreLinked}
+use Rattle.lg_meaning.specs.Fits.{AreLinked, entry_stack}
 use Rattle.lg_meaning.specs.States.{Frame, State}
 use Rattle.lg_meaning.specs.Steps.{Goes, on, begun, need, quiet, function_here}
 use Rattle.lg_meaning.specs.Texts.{text, step_at, step}
 use Rattle.lg_carry.specs.Carries.{Leads, moves_at}
-use Rattle.lg_carry.specs.FinalNodes.{Code, is_inside}
+use Rattle.lg_carry.specs.FinalNodes.{Code, is_inside, saved_at, function_at, is_entry}
 use Rattle.lg_carry.specs.Frames.{at_call, return_address, MayKeepCaller, MayHoldCaller, HasFrameWords, IsArriving, IsRunning}
-use Rattle.lg_carry.specs.Homes.{homes_at}
+use Rattle.lg_carry.specs.Homes.{homes_in, homes_at}
 use Rattle.lg_carry.specs.NodeCode.{live_before, live_behind, ReturnsTo}
 use Rattle.lg_carry.specs.Passages.{IsNodeCode, Passes}
 use Rattle.lg_carry.specs.Registers.{HasWord}
@@ -28,7 +28,11 @@ use Rattle.lg_carry.proofs.PassageLemmas.{passages-lead}
 use Rattle.lg_carry.proofs.StackLemmas.{stacked, stacked-high}
 use Rattle.lg_carry.proofs.TextShapeLemmas.{shaped}
 use Rattle.lg_carry.specs.Nodes.Stretches.{behind}
-use Rattle.lg_carry.proofs.OfNodes.HomesLemmas.{homes-same}
+use Rattle.lg_meaning.proofs.FunctionFacts.{function_at_home}
+use Rattle.lg_carry.specs.Entries.{entry_at}
+use Rattle.lg_carry.specs.Outer.{IsBeforeEntry, IsBehindEntry, outer_stack}
+use Rattle.lg_carry.proofs.EntryLemmas.{entry-here}
+use Rattle.lg_carry.proofs.OfNodes.HomesLemmas.{function-same}
 use Rattle.lg_carry.proofs.OfNodes.LeapLemmas.{outer-is, next-inside, node-stands, node-passes}
 use Rattle.lg_carry.proofs.OfNodes.LiveLemmas.{unwritten, still-live, live-saved}
 use Rattle.lg_carry.proofs.OfNodes.StraightLemmas.{text-keeps}
@@ -52,10 +56,13 @@ keeps-caller target m w f size locals (g ∷ gs) live pointer saved h = record {
   saved = λ v x lt l e. subst (HasWord m (saved_word (frame_pointer f.sp) v)) (h.saved v x lt l e) (saved g gs refl v lt l);
 }
 
+same-number : (x y : ℕ) → x ≡ y → (x == y) ≡ true
+same-number x y e = grind (arith, e)
+
 -- ---- the node
 module _ {Q I : Type 0} (R : Rows Q I) (fits : I → Type 0) (saved : ℕ) (code : ℕ → ℕ → List I) (lead : PrologsLead R fits saved code) (c : Code) (i line : ℕ) (f : Function)
     (S : ℕ → Bool) (t : IsInText c i (prolog_node line))
-    (function : function_here c.shape.functions i ≡ Some f) (is-saved : c.saved ≡ saved) (k : IsNodeCode R fits c i (code (frame_of f) (homes_at c i)))
+    (function : function_here c.shape.functions i ≡ Some f) (is-saved : saved_at c i ≡ saved) (k : IsNodeCode R fits c i (code (frame_of f) (homes_at c i)))
     (live : Frame → ℕ → Bool) (s : State) (returns : ReturnsTo c live (prolog_node line) S s) (out : List ℕ) (q : Q) (at : s.at ≡ i)
     (st : Stands R.processor c live s out q (live_before (prolog_node line) S)) where
   abbrev n : Node
@@ -114,7 +121,7 @@ module _ {Q I : Type 0} (R : Rows Q I) (fits : I → Type 0) (saved : ℕ) (code
   live-stored : (g : Frame) (gs : List Frame) → s.callers ≡ g ∷ gs → (v : ℕ) → v < 3 → live (at_call s.frame) (v + 3) ≡ true
       → HasWord (R.processor.seen u).bytes (saved_word (frame_pointer sp) v) ((R.processor.seen q).registers (portable_register target (v + 3)))
   live-stored g gs e v lt l =
-      let less = live-saved c live s.frame g gs returns.saves (subst (λ l. AreLinked c.nodes c.shape s.frame l) e st.state.fits.linked) v lt l in
+      let less = live-saved c live s.frame g gs returns.saves (subst (λ l. AreLinked c.nodes c.shape s.frame l) e st.state.fits.linked) v lt l i in
       enters.saved v (omega (arith, less, is-saved)) lt
 
   words : HasFrameWords target c.place (R.processor.seen u).bytes s'.frame s.callers (live (at_call s.frame)) homes
@@ -126,10 +133,41 @@ module _ {Q I : Type 0} (R : Rows Q I) (fits : I → Type 0) (saved : ℕ) (code
   }
 
   -- the next node stands in the same function
-  next-home : homes ≡ homes_at c (s.at + 1)
-  next-home =
+  next-function : function_at c (s.at + 1) ≡ function_at c i
+  next-function =
       let more = (t.well.falls i i entry (ap is_epilog_at t.here)).0 in
-      sym (homes-same c i n t i (i + 1) i entry more) ∙ ap (λ j. homes_at c (j + 1)) (sym at)
+      ap (λ j. function_at c (j + 1)) at ∙ function-same c i n t i (i + 1) i entry more
+
+  next-home : homes ≡ homes_at c (s.at + 1)
+  next-home = sym (ap (homes_in c.nodes.nodes) next-function)
+
+  -- the function begins at the node
+  begins-here : f.entry ≡ i
+  begins-here =
+      let x = function_at_home c.nodes c.shape t.functions t.shape.functions i i entry in
+      ap (λ (g : Function). g.entry) (same-some f x.0 (sym function ∙ x.1.here)) ∙ x.1.entry
+    where
+      same-some : (x y : Function) → Some x ≡ Some y → x ≡ y
+      same-some x y e = cc
+
+  -- what is kept for who called the entry is in the words of its frame
+  keeps-outer : s.callers ≡ [] → IsBeforeEntry target c s.at (R.processor.seen q).registers
+      → IsBehindEntry target c (s.at + 1) s.frame [] (R.processor.seen u).bytes
+  keeps-outer none b =
+      let begun : f.entry ≡ c.entry = begins-here ∙ sym (entry-here c.nodes i n t.here refl) ∙ ap (entry_at c.nodes) (sym at) ∙ b.enters in
+      let is-entry : is_entry c (function_at c i) ≡ true = ap (is_entry c) function ∙ same-number f.entry c.entry begun in
+      let all : c.first ≡ saved = sym (ap (λ x. if x then c.first else c.saved) is-entry) ∙ is-saved in
+      let high : sp ≡ outer_stack target c = ap (entry_stack s.frame) (sym none) ∙ st.state.entry in
+      record {
+        entry = ap (is_entry c) next-function ∙ is-entry;
+        keeps = record {
+          pointer = subst (HasWord (R.processor.seen u).bytes (frame_pointer (outer_stack target c))) b.holds.pointer
+              (subst (λ z. HasWord (R.processor.seen u).bytes (frame_pointer z) ((R.processor.seen q).registers (frame_register target))) high enters.caller);
+          saved = λ v lt few. subst (HasWord (R.processor.seen u).bytes (saved_word (frame_pointer (outer_stack target c)) v)) (b.holds.saved v lt few)
+              (subst (λ z. HasWord (R.processor.seen u).bytes (saved_word (frame_pointer z) v) ((R.processor.seen q).registers (portable_register target (v + 3)))) high
+              (enters.saved v (omega (arith, few, all)) lt));
+        };
+      }
 
   agree : StatesAgree target c live s' (R.processor.seen u) S
   agree = prolog-agrees target c live s f (R.processor.seen q) (R.processor.seen u) (live_before n S) S st.state
@@ -144,6 +182,7 @@ module _ {Q I : Type 0} (R : Rows Q I) (fits : I → Type 0) (saved : ℕ) (code
           stack = enters.stack_is;
         };
         bytes = enters.bytes;
+        outer = keeps-outer;
       }
       record {
         few = (shaped c.nodes t.well).few;

@@ -41,7 +41,7 @@ use Rattle.lg_carry.proofs.OfNodes.StraightLemmas.{text-keeps}
 use Rattle.lg_sel.specs.Control.RegisterLeaps.{RegisterJumpsWalk, RegisterCallsLead, RegisterHostCallsLead, RegisterLeapsCarry, jmpr_node, callr_node}
 use Rattle.lg_sel.specs.Control.RegisterLeaps.{finishr_node}
 use Rattle.lg_sel.specs.Control.Walks.{Walk}
-use Rattle.lg_sel.proofs.OfControl.LandingLemmas.{LandsAt, last-landed, host-found, entry-home, target-inside, target-homes}
+use Rattle.lg_sel.proofs.OfControl.LandingLemmas.{LandsAt, last-landed, host-found, entry-home, target-inside, target-function}
 use Rattle.lg_sel.proofs.OfControl.WalkLemmas.{walk-leads}
 
 -- a word that is the address of a label leads to the label's node
@@ -85,7 +85,8 @@ module _ {Q I : Type 0} (R : Rows Q I) (fits : I → Type 0) (rows : AreRows R f
           record {
             fits = kept;
             side = target-inside c i m t s.at x j ej ∙ sym before;
-            homes = target-homes c i m t s.at x j ej;
+            function = λ z. target-function c i m t s.at x j ej z;
+            enters = λ z none. let y : false ≡ true = sym z ∙ before in cc;
             regs = refl;
             carry = refl;
             answer = refl;

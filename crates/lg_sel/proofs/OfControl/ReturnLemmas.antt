@@ -2,8 +2,8 @@
 use Rattle.std.proofs.Common.{◌≡◌, ◌≢◌, ℕ, ◌+◌, ◌<◌, ◌⊎◌, inl, inr, Bool, true, List, [], ◌∷◌, Option, Some, None, refl, sym, ap, ◌∙◌, subst, arith, append-nil}
 use Rattle.std.specs.Prelude.{slice_get, slice_index, if◌then◌else◌}
 use Rattle.lg_carry.proofs.TurnLemmas.{rising-turns, return-moves, return-no-sink}
-use Rattle.lg_base.specs.Conventions.{stack_register}
-use Rattle.lg_base.specs.Layout.{return_word}
+use Rattle.lg_base.specs.Conventions.{portable_register, frame_register, stack_register}
+use Rattle.lg_base.specs.Layout.{stack_end, return_word, frame_pointer, saved_word}
 use Rattle.lg_base.specs.declared.target.Target.{Target}
 use Rattle.lg_op.specs.declared.form.Form.TheVariants as form
 use Rattle.lg_op.specs.declared.operand.Operand.TheVariants as operand
@@ -13,22 +13,24 @@ use Rattle.lg_op.specs.declared.node.Node.{Node}
 use Rattle.lg_node.specs.Functions.{home}
 use Rattle.lg_node.proofs.FunctionLaws.{home_within}
 use Rattle.lg_live.specs.declared.uses.Access.TheVariants.{Read}
-use Rattle.lg_meaning.specs.Fits.{AreLinked}
+use Rattle.lg_meaning.specs.Fits.{AreLinked, entry_stack}
 use Rattle.lg_meaning.specs.States.{Frame, State, reg}
 use Rattle.lg_meaning.specs.Steps.{Goes, Undefined, need, leave, back_to, node_step}
 use Rattle.lg_meaning.specs.Texts.{text, step_at, step}
 use Rattle.lg_carry.specs.AgreeAcrossFrames.{returned}
 use Rattle.lg_carry.specs.Carries.{Meets, Leads, calls_at, moves_at}
-use Rattle.lg_carry.specs.FinalNodes.{Code, is_inside}
+use Rattle.lg_carry.specs.FinalNodes.{Code, is_inside, saved_at, function_at, is_entry}
 use Rattle.lg_carry.specs.Frames.{at_call, IsSettled, return_address}
 use Rattle.lg_carry.specs.Homes.{homes_at}
 use Rattle.lg_carry.specs.NodeCode.{live_before, live_behind, is_return, ReturnsTo}
+use Rattle.lg_carry.specs.Outer.{IsBehindEntry, HasLeft, outer_stack}
 use Rattle.lg_carry.specs.Passages.{IsNodeCode, Passes}
 use Rattle.lg_carry.specs.Registers.{HasWord}
 use Rattle.lg_carry.specs.Rows.{Rows}
 use Rattle.lg_carry.specs.Stands.{StatesAgree, Stands}
 use Rattle.lg_carry.specs.TextNodes.{IsInText, IsFrameOf}
 use Rattle.lg_carry.proofs.AgreeAcrossFramesLemmas.{return-agrees}
+use Rattle.lg_carry.proofs.OuterLemmas.{behind-entry}
 use Rattle.lg_carry.proofs.PassageLemmas.{passages-lead}
 use Rattle.lg_carry.proofs.TextShapeLemmas.{shaped}
 use Rattle.lg_carry.specs.Nodes.Leaps.{HasPlaces}
@@ -46,7 +48,7 @@ use Rattle.lg_sel.specs.Control.Returns.{epilog_node, retr_node, reti_node, Retu
 -- ---- a node that returns
 module _ {Q I : Type 0} (R : Rows Q I) (fits : I → Type 0) (saved : ℕ) (code : ℕ → Returned → List I) (lead : ReturnsLead R fits saved code) where
   module _ (c : Code) (i : ℕ) (n : Node) (r : Returned) (size : ℕ) (S : ℕ → Bool) (w : HasPlaces R c) (t : IsInText c i n) (is-frame : IsFrameOf c i size)
-      (is-saved : c.saved ≡ saved) (k : IsNodeCode R fits c i (code size r))
+      (is-saved : saved_at c i ≡ saved) (k : IsNodeCode R fits c i (code size r))
       (is : is_return n.op ≡ true) (inside : is_inside c i ≡ true) (ok : IsReturned r) (live : Frame → ℕ → Bool) (s : State) (returns : ReturnsTo c live n S s)
       (out : List ℕ) (q : Q) (at : s.at ≡ i)
       (st : Stands R.processor c live s out q (live_before n S))
@@ -92,7 +94,7 @@ module _ {Q I : Type 0} (R : Rows Q I) (fits : I → Type 0) (saved : ℕ) (code
     -- what is live there is saved
     saved-live : (g : Frame) (gs : List Frame) → s.callers ≡ g ∷ gs → (j : ℕ) → j < 3 → live (at_call s.frame) (j + 3) ≡ true → j < saved
     saved-live g gs e j lt l =
-        let less = live-saved c live s.frame g gs returns.saves (subst (λ l. AreLinked c.nodes c.shape s.frame l) e st.state.fits.linked) j lt l in
+        let less = live-saved c live s.frame g gs returns.saves (subst (λ l. AreLinked c.nodes c.shape s.frame l) e st.state.fits.linked) j lt l i in
         omega (arith, less, is-saved)
 
     back-there : (gs : List Frame) → s.callers ≡ gs → IsBack R (return_address c.place s.frame gs)
@@ -119,9 +121,29 @@ module _ {Q I : Type 0} (R : Rows Q I) (fits : I → Type 0) (saved : ℕ) (code
     wrote : R.processor.machine.out u ≡ out
     wrote = ap R.processor.machine.out (sym pass.leads) ∙ pass.silent departs.steps (omega arith) ∙ st.wrote
 
+    -- from the entry's frame: what is kept for who called it comes back
+    leaves : s.callers ≡ [] → HasLeft target c v (R.processor.seen u)
+    leaves e =
+        let o : IsBehindEntry target c s.at s.frame [] (R.processor.seen q).bytes =
+        subst (λ gs. IsBehindEntry target c s.at s.frame gs (R.processor.seen q).bytes) e
+        (behind-entry (is_inside c s.at) target c s.at s.frame s.callers (R.processor.seen q) here-inside st.state.outer) in
+        let is-entry : is_entry c (function_at c i) ≡ true = ap (λ j. is_entry c (function_at c j)) (sym at) ∙ o.entry in
+        let all : c.first ≡ saved = sym (ap (λ x. if x then c.first else c.saved) is-entry) ∙ is-saved in
+        let high : s.frame.sp ≡ outer_stack target c = ap (entry_stack s.frame) (sym e) ∙ st.state.entry in
+        record {
+          here = departs.here ∙ ap (return_address c.place s.frame) e;
+          stack = departs.stack_is ∙ high;
+          outer = record {
+            pointer = departs.pointer _ (subst (λ z. HasWord (R.processor.seen q).bytes (frame_pointer z) (c.outer (frame_register target))) (sym high) o.keeps.pointer);
+            saved = λ x lt few. departs.saved x _ (omega (arith, few, all)) lt
+                (subst (λ z. HasWord (R.processor.seen q).bytes (saved_word (frame_pointer z) x) (c.outer (portable_register target (x + 3)))) (sym high) (o.keeps.saved x lt few));
+          };
+          result = record { is = departs.result };
+        }
+
     meets : (gs : List Frame) → s.callers ≡ gs → Meets R.processor c live (live_behind live n S s) q (back_to s v gs) out u
     meets [] e =
-        (departs.ends (ap (return_address c.place s.frame) e), wrote, record { bytes = λ a lt. ap (λ m. m a) departs.bytes; mark = departs.mark })
+        (departs.ends (ap (return_address c.place s.frame) e), wrote, record { bytes = λ a lt. ap (λ m. m a) departs.bytes; mark = departs.mark }, leaves e)
     meets (g ∷ gs) e =
         let t' = returned s g gs v in
         let goes : step c.nodes c.shape c.addresses s ≡ Goes t' [] = steps ∙ ap (back_to s v) e in
@@ -181,7 +203,7 @@ module _ {Q I : Type 0} (R : Rows Q I) (fits : I → Type 0) (saved : ℕ) (code
       stepped c i n t s at = ap (λ x. step_at (text c.nodes c.shape c.addresses) x s) (ap (slice_get c.nodes.nodes) at ∙ t.here)
 
       register : (c : Code) (i line : ℕ) (a : Reg) (size : ℕ) (S : ℕ → Bool) → HasPlaces R c → (t : IsInText c i (retr_node a line)) → IsFrameOf c i size
-          → c.saved ≡ saved → IsNodeCode R fits c i (code size (OfRegister a))
+          → saved_at c i ≡ saved → IsNodeCode R fits c i (code size (OfRegister a))
           → (live : Frame → ℕ → Bool) (s : State) → ReturnsTo c live (retr_node a line) S s → (out : List ℕ) (q : Q) → s.at ≡ i → Stands R.processor c live s out q (live_before (retr_node a line) S)
           → (o : Option ℕ) → reg s a ≡ o
           → (step c.nodes c.shape c.addresses s ≡ Undefined)

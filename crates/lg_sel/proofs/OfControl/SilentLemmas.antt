@@ -12,16 +12,15 @@ use Rattle.lg_node.specs.Preparations.{prepared_before, pushed_of}
 use Rattle.lg_meaning.specs.States.{Frame, State, value}
 use Rattle.lg_meaning.specs.Steps.{Outcome, Goes, Undefined, need, quiet, on, operand_at, node_step}
 use Rattle.lg_meaning.specs.Texts.{text, step_at, step}
-use Rattle.lg_carry.specs.FinalNodes.{Code, is_inside}
+use Rattle.lg_carry.specs.FinalNodes.{Code, is_inside, function_at}
 use Rattle.lg_carry.specs.Carries.{Leads, leaps}
-use Rattle.lg_carry.specs.Homes.{homes_at}
 use Rattle.lg_carry.specs.NodeCode.{live_before, live_behind, CarriesNode}
 use Rattle.lg_carry.specs.Passages.{IsNodeCode}
 use Rattle.lg_carry.specs.Rows.{Rows, AreRows}
 use Rattle.lg_carry.specs.Stands.{Stands}
 use Rattle.lg_carry.specs.TextNodes.{IsInText}
 use Rattle.lg_carry.specs.Nodes.Stretches.{behind}
-use Rattle.lg_carry.proofs.OfNodes.HomesLemmas.{next-homes}
+use Rattle.lg_carry.proofs.OfNodes.HomesLemmas.{next-function}
 use Rattle.lg_carry.proofs.OfNodes.LeapLemmas.{in-some, behind-prolog, next-inside}
 use Rattle.lg_carry.proofs.OfNodes.LiveLemmas.{writes_none}
 use Rattle.lg_carry.proofs.OfNodes.StraightLemmas.{text-keeps}
@@ -177,8 +176,9 @@ module _ {Q I : Type 0} (R : Rows Q I) (fits : I → Type 0) (rows : AreRows R f
                 (omega (arith, st.state.seen.high, st.state.mark)) st.state.fits goes;
             side = ap (is_inside c) m.at ∙ ap (λ j. is_inside c (j + 1)) at ∙ next-inside c i n t p.0 p.1 is.epilog
                 ∙ sym (ap (is_inside c) at ∙ behind-prolog c i n t p.0 p.1 is.prolog);
-            homes = λ z. ap (homes_at c) m.at ∙ ap (λ j. homes_at c (j + 1)) at
-                ∙ next-homes c i n t (ap (is_inside c) (sym at) ∙ z) is.epilog ∙ ap (homes_at c) (sym at);
+            function = λ z. ap (function_at c) m.at ∙ ap (λ j. function_at c (j + 1)) at
+                ∙ next-function c i n t (ap (is_inside c) (sym at) ∙ z) is.epilog ∙ ap (function_at c) (sym at);
+            enters = λ z none. let y : false ≡ true = sym z ∙ ap (is_inside c) at ∙ behind-prolog c i n t p.0 p.1 is.prolog in cc;
             regs = m.regs;
             carry = m.carry;
             answer = m.answer;

@@ -26,9 +26,8 @@ use Rattle.lg_meaning.specs.States.{Frame, State, reg, value}
 use Rattle.lg_meaning.specs.Steps.{Goes, Undefined, need, branch, with_word, with_reg, to, node_in, node_of_label}
 use Rattle.lg_meaning.specs.Texts.{text, step_at, step}
 use Rattle.lg_temp.specs.Abis.{register_of}
-use Rattle.lg_carry.specs.FinalNodes.{Code, is_inside}
+use Rattle.lg_carry.specs.FinalNodes.{Code, is_inside, function_at}
 use Rattle.lg_carry.specs.Carries.{Leads, moves_at}
-use Rattle.lg_carry.specs.Homes.{homes_at}
 use Rattle.lg_carry.specs.NodeCode.{numbered, live_before, live_behind}
 use Rattle.lg_carry.specs.Passages.{IsNodeCode}
 use Rattle.lg_carry.specs.Rows.{Rows}
@@ -40,7 +39,7 @@ use Rattle.lg_carry.specs.Nodes.Leaps.{HasPlaces, IsThere, second_word, last_of,
 use Rattle.lg_sel.specs.Control.SumBranches.{SumBranchesLead, sum_branch_node, SumBranchesCarry}
 use Rattle.lg_carry.specs.TextNodes.{IsInText, IsFrameOf}
 use Rattle.lg_carry.specs.Nodes.Stretches.{behind, Way}
-use Rattle.lg_carry.proofs.OfNodes.HomesLemmas.{next-homes}
+use Rattle.lg_carry.proofs.OfNodes.HomesLemmas.{next-function}
 use Rattle.lg_carry.proofs.OfNodes.LeapLemmas.{bound-at, Lands, jump-lands, in-some, behind-prolog, next-inside, in-nodes, node-stands, to-label, there-behind}
 use Rattle.lg_carry.proofs.OfNodes.LeapLemmas.{way-leads}
 use Rattle.lg_carry.proofs.OfNodes.LiveLemmas.{still-live}
@@ -157,7 +156,7 @@ module _ {Q I : Type 0} (R : Rows Q I) (scratch : ℕ → Bool) (fits : I → Ty
     place-next = k.next
 
     -- behind the node the register holds the sum, and the others what they held
-    goes-to : (v j : ℕ) → is_inside c j ≡ true → homes_at c j ≡ homes_at c i → step c.nodes c.shape c.addresses s ≡ Goes (to (with_reg s (operand.Reg a) v) j) []
+    goes-to : (v j : ℕ) → is_inside c j ≡ true → function_at c j ≡ function_at c i → step c.nodes c.shape c.addresses s ≡ Goes (to (with_reg s (operand.Reg a) v) j) []
         → Way R.processor scratch (c.place i) high (with_register W ra v) (c.place j) q
         → Leads R.processor c live (live_behind live n S s) i (step c.nodes c.shape c.addresses s) out q
     goes-to v j side level goes' way =
@@ -216,7 +215,7 @@ module _ {Q I : Type 0} (R : Rows Q I) (scratch : ℕ → Bool) (fits : I → Ty
         by false e =
             let z : s.at + 1 ≡ i + 1 = ap (λ j. j + 1) at in
             goes-to (branch_sum_value o x y) (s.at + 1) (ap (is_inside c) z ∙ (let p = in-some c i n t refl in next-inside c i n t p.0 p.1 refl))
-            (ap (homes_at c) z ∙ next-homes c i n t inside refl)
+            (ap (function_at c) z ∙ next-function c i n t inside refl)
             (goes' ∙ ap (λ b. Goes (to (with_reg s (operand.Reg a) (branch_sum_value o x y))
             (if b then node_of_label c.nodes.places (operand.Label l) else s.at + 1)) []) e)
             (subst (λ u. Way R.processor scratch (c.place i) high (with_register W ra (branch_sum_value o x y)) u q)

@@ -8,28 +8,30 @@ use Rattle.lg_carry.proofs.TurnLemmas.{IsStill, still-moves, still-turns}
 use Rattle.lg_op.specs.Forms.{is_alignment}
 use Rattle.lg_op.specs.declared.node.Node.{Node}
 use Rattle.lg_node.specs.declared.place.Place.TheVariants as place
-use Rattle.lg_node.specs.Functions.{home}
+use Rattle.lg_node.specs.Functions.{home, is_prolog_at}
 use Rattle.lg_node.specs.Labels.{is_inner}
 use Rattle.lg_node.specs.Shapes.{IsSuccessor}
 use Rattle.lg_node.proofs.SuccessorLaws.{successors_enter}
+use Rattle.lg_meaning.proofs.FunctionFacts.{function_at_home}
 use Rattle.lg_meaning.specs.States.{Frame, State}
 use Rattle.lg_meaning.specs.Steps.{Goes, to, on, node_in}
 use Rattle.lg_meaning.specs.Texts.{text, step_at, step}
 use Rattle.lg_carry.specs.Blocks.{spellings}
 use Rattle.lg_carry.specs.Carries.{Leads, moves_at}
-use Rattle.lg_carry.specs.FinalNodes.{Code, is_inside}
+use Rattle.lg_carry.specs.Entries.{entry_at}
+use Rattle.lg_carry.specs.FinalNodes.{Code, is_inside, function_at}
 use Rattle.lg_carry.specs.Frames.{at_call}
-use Rattle.lg_carry.specs.Homes.{homes_at}
 use Rattle.lg_carry.specs.Moves.{Moves}
 use Rattle.lg_carry.specs.NodeCode.{live_before, live_behind}
 use Rattle.lg_carry.specs.Passages.{IsNodeCode, Passes}
 use Rattle.lg_carry.specs.Rows.{Rows, AreRows}
 use Rattle.lg_carry.specs.Stands.{StatesAgree, Stands}
 use Rattle.lg_carry.specs.TextNodes.{IsInText}
+use Rattle.lg_carry.proofs.EntryLemmas.{entry-aligned, entry-jumped, entry-prolog}
 use Rattle.lg_carry.proofs.MoveLemmas.{move-agrees}
 use Rattle.lg_carry.proofs.PassageLemmas.{passages-lead}
 use Rattle.lg_carry.specs.Nodes.Stretches.{behind}
-use Rattle.lg_carry.proofs.OfNodes.HomesLemmas.{next-homes}
+use Rattle.lg_carry.proofs.OfNodes.HomesLemmas.{next-function}
 use Rattle.lg_carry.proofs.OfNodes.LeapLemmas.{bound-at, Lands, jump-lands, outer-is, behind-prolog, next-inside, in-nodes, node-stands, node-passes, to-label}
 use Rattle.lg_carry.proofs.OfNodes.LeapLemmas.{there-behind}
 use Rattle.lg_carry.proofs.OfNodes.LiveLemmas.{writes_none, unwritten, still-live}
@@ -105,7 +107,11 @@ module _ {Q I : Type 0} (R : Rows Q I) (fits : I → Type 0) (rows : AreRows R f
       record {
         fits = kept;
         side = lands.side ∙ ap (is_inside c) (sym at);
-        homes = λ z. lands.level (ap (is_inside c) (sym at) ∙ z) ∙ ap (homes_at c) (sym at);
+        function = λ z. lands.level (ap (is_inside c) (sym at) ∙ z) ∙ ap (function_at c) (sym at);
+        enters = λ z none.
+            let x = function_at_home c.nodes c.shape t.functions t.shape.functions lands.node lands.node (lands.entry (ap (is_inside c) (sym at) ∙ z)) in
+            entry-prolog c.nodes lands.node (ap (λ j. is_prolog_at (slice_get c.nodes.nodes j)) (sym x.1.entry) ∙ x.1.is.begins)
+            ∙ sym (ap (entry_at c.nodes) at ∙ entry-jumped c.nodes i n t.here refl refl ∙ ap node_in lands.place);
         regs = refl;
         carry = refl;
         answer = refl;
@@ -158,7 +164,8 @@ module _ {Q I : Type 0} (R : Rows Q I) (fits : I → Type 0) (rows : AreRows R f
       record {
         fits = kept;
         side = align-side c i m line u.at t next kept.inside ∙ ap (is_inside c) (sym at);
-        homes = λ z. ap (homes_at c) next ∙ next-homes c i n t (ap (is_inside c) (sym at) ∙ z) refl ∙ ap (homes_at c) (sym at);
+        function = λ z. ap (function_at c) next ∙ next-function c i n t (ap (is_inside c) (sym at) ∙ z) refl ∙ ap (function_at c) (sym at);
+        enters = λ z none. ap (entry_at c.nodes) next ∙ entry-aligned c.nodes i n t.here refl ∙ ap (entry_at c.nodes) (sym at);
         regs = refl;
         carry = refl;
         answer = refl;

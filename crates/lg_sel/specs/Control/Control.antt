@@ -16,7 +16,7 @@ use Rattle.lg_op.specs.declared.operand.Operand.{Operand}
 use Rattle.lg_op.specs.declared.operand.Operand.TheVariants as operand
 use Rattle.lg_op.specs.declared.operand.Reg.{Reg}
 use Rattle.lg_op.specs.declared.node.Node.{Node}
-use Rattle.lg_carry.specs.FinalNodes.{Code}
+use Rattle.lg_carry.specs.FinalNodes.{Code, saved_at}
 use Rattle.lg_carry.specs.Homes.{IsHomesOf}
 use Rattle.lg_carry.specs.NodeCode.{CarriesNode}
 use Rattle.lg_carry.specs.Passages.{IsNodeCode}
@@ -147,6 +147,6 @@ pub record Controls {Q I : Type 0} (R : Rows Q I) (scratch : ℕ → Bool) (fits
 abbrev pub ControlNodesCarry : {Q I : Type 0} → Rows Q I → (I → Type 0) → ℕ → Codes I → Type 0
 ControlNodesCarry R fits saved C =
     (c : Code) (i : ℕ) (n : Node) (frame homes : ℕ) (S : ℕ → Bool) → is_control n.op ≡ true → HasPlaces R c → AreWords c.addresses n.operands
-    → ends_in_label n.operands ≡ false → IsFrameOf c i frame → IsHomesOf c i homes → c.saved ≡ saved → IsInText c i n
+    → ends_in_label n.operands ≡ false → IsFrameOf c i frame → IsHomesOf c i homes → saved_at c i ≡ saved → IsInText c i n
     → IsNodeCode R fits c i (control_code C (slice_index c.addresses) frame homes (c.place i) n.op n.operands)
     → CarriesNode R.processor c i n S

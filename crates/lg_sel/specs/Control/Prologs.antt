@@ -9,7 +9,7 @@ use Rattle.lg_op.specs.declared.node.Node.{Node}
 use Rattle.lg_node.specs.declared.function.Function.{Function}
 use Rattle.lg_node.specs.Functions.{frame_of}
 use Rattle.lg_meaning.specs.Steps.{function_here}
-use Rattle.lg_carry.specs.FinalNodes.{Code}
+use Rattle.lg_carry.specs.FinalNodes.{Code, saved_at}
 use Rattle.lg_carry.specs.Frames.{arriving, IsLinked}
 use Rattle.lg_carry.specs.Homes.{homes_at}
 use Rattle.lg_carry.specs.Carries.{Sinks}
@@ -61,8 +61,8 @@ PrologsLead {Q} R fits saved code =
 abbrev pub prolog_node : ℕ → Node
 prolog_node line = record { op = op.Plain plain.Prolog; operands = []; line = line }
 
--- the frame is that of the function that begins at the node, the homes are those that it reads, and so many are saved as the code saves
+-- the frame is that of the function that begins at the node, the homes are those that it reads, and so many are saved as its frames save
 abbrev pub PrologsCarry : {Q I : Type 0} → Rows Q I → (I → Type 0) → ℕ → (ℕ → ℕ → List I) → Type 0
 PrologsCarry R fits saved code =
-    (c : Code) (i line : ℕ) (f : Function) (S : ℕ → Bool) → IsInText c i (prolog_node line) → function_here c.shape.functions i ≡ Some f → c.saved ≡ saved
+    (c : Code) (i line : ℕ) (f : Function) (S : ℕ → Bool) → IsInText c i (prolog_node line) → function_here c.shape.functions i ≡ Some f → saved_at c i ≡ saved
     → IsNodeCode R fits c i (code (frame_of f) (homes_at c i)) → CarriesNode R.processor c i (prolog_node line) S

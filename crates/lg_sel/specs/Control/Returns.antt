@@ -15,7 +15,7 @@ use Rattle.lg_op.specs.declared.operand.Operand.TheVariants as operand
 use Rattle.lg_op.specs.declared.operand.Reg.{Reg}
 use Rattle.lg_op.specs.declared.node.Node.{Node}
 use Rattle.lg_temp.specs.Abis.{register_of}
-use Rattle.lg_carry.specs.FinalNodes.{Code}
+use Rattle.lg_carry.specs.FinalNodes.{Code, saved_at}
 use Rattle.lg_carry.specs.NodeCode.{CarriesNode}
 use Rattle.lg_carry.specs.Passages.{IsNodeCode}
 use Rattle.lg_carry.specs.Processors.{Processor}
@@ -99,7 +99,7 @@ reti_node x line = record { op = op.Control control.Ret last_operand.Immediate; 
 -- a node that returns is carried by such code, where the code saves so many
 abbrev pub IsReturnOf : {Q I : Type 0} → Rows Q I → (I → Type 0) → ℕ → (ℕ → Returned → List I) → Code → ℕ → Node → Returned → Type 0
 IsReturnOf R fits saved code c i n r =
-    (frame : ℕ) (S : ℕ → Bool) → HasPlaces R c → IsInText c i n → IsFrameOf c i frame → c.saved ≡ saved → IsNodeCode R fits c i (code frame r)
+    (frame : ℕ) (S : ℕ → Bool) → HasPlaces R c → IsInText c i n → IsFrameOf c i frame → saved_at c i ≡ saved → IsNodeCode R fits c i (code frame r)
     → CarriesNode R.processor c i n S
 
 pub record ReturnsCarry {Q I : Type 0} (R : Rows Q I) (fits : I → Type 0) (saved : ℕ) (code : ℕ → Returned → List I) : Type 0 where

@@ -10,6 +10,7 @@ ghost use Rattle.lg_sela.specs.Memory.VariableArgumentCode.{argument_offset, nex
 use crate::memory::accesses::{load_row, scaled};
 use crate::memory::operands::register;
 use lg_a64::{BitfieldOp, ImmOp, Instr, MulAddOp, RegOp, ScaledOp, UnscaledOp};
+use lg_base::Target;
 use lg_carry::memory::operands::{operand, slot};
 use lg_op::operators::width;
 use lg_op::{Node, Operand, ValueType};
@@ -17,6 +18,7 @@ use lg_sel::Items;
 use lg_sela_values::{
     FRAME_POINTER, Item, LINK, ZERO, bitfield, imm, mul_add, put_number, register_of, row,
 };
+use lg_va::home;
 
 // The stack pointer, 31 as the base of an address.
 const STACK_POINTER: u8 = 31;
@@ -80,20 +82,21 @@ pub fn put_argument(node: &Node, index: u32, items: &mut Items<Item>)
     }
 }
 
-// How far below FP the home of an argument stands. The number is below 8.
+// How far below FP the home of an argument is, in bytes. Its number is below 8.
 fn home_distance(index: u32) -> u16
     requires { index < 8 }
     ensures { result ≡ home_distance index }
 {
-    32 + 8 * index as u16
+    (-home(Target::Aarch64, index)) as u16
 }
 
-// How many accesses behind FP an argument stands in the caller's stack words. The number is below 16.
+// How many accesses above FP an argument is in the caller's stack words. Its number is from 8 to 15.
 fn stack_count(t: ValueType, index: u32) -> u16
-    requires { index < 16 }
+    requires above { 8 ≤ index }
+    requires few { index < 16 }
     ensures { result ≡ stack_count t index }
 {
-    ((16 + 8 * index.saturating_sub(8)) / width(t)) as u16
+    (home(Target::Aarch64, index) as u32 / width(t)) as u16
 }
 
 // An argument into a register from its home: a word by the row that counts bytes, others by way of the link. The number is below 8.

@@ -2,7 +2,7 @@
 use Rattle.std.specs.Prelude.{◌≡◌, ℕ, Bool, true, false, List, slice_index}
 use Rattle.lg_op.specs.declared.node.Node.{Node}
 use Rattle.lg_op.specs.declared.operand.Operand.{Operand}
-use Rattle.lg_carry.specs.FinalNodes.{Code}
+use Rattle.lg_carry.specs.FinalNodes.{Code, saved_at}
 use Rattle.lg_carry.specs.Homes.{IsHomesOf}
 use Rattle.lg_carry.specs.NodeCode.{CarriesNode}
 use Rattle.lg_carry.specs.TextNodes.{IsInText, IsFrameOf, HasPlaces}
@@ -21,6 +21,6 @@ ends_in_label xs = target_control.ends_in_label xs
 abbrev pub ControlNodesCarry : Type 0
 ControlNodesCarry =
     (r : Reach) (code : List ℕ) (trash : ℕ) (c : Code) (i : ℕ) (n : Node) (frame homes saved : ℕ) (S : ℕ → Bool) → is_control n.op ≡ true → HasPlaces 4 c
-    → AreWords c.addresses n.operands → ends_in_label n.operands ≡ false → IsFrameOf c i frame → IsHomesOf c i homes → c.saved ≡ saved → IsInText c i n
+    → AreWords c.addresses n.operands → ends_in_label n.operands ≡ false → IsFrameOf c i frame → IsHomesOf c i homes → saved_at c i ≡ saved → IsInText c i n
     → StandsInCode code trash c i (settled (slice_index c.addresses) (c.place i) (control_items r n.op n.operands frame homes saved (c.place i)))
     → CarriesNode (rv_processor code trash) c i n S

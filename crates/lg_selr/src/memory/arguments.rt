@@ -9,6 +9,7 @@ ghost use Rattle.lg_selr.specs.Memory.VariableArgumentCode.{next_argument_code};
 
 use crate::memory::accesses::load_row;
 use crate::memory::operands::register;
+use lg_base::Target;
 use lg_carry::memory::operands::{operand, slot};
 use lg_op::{Node, Operand, ValueType};
 use lg_rv::{ImmOp, Instr, RegOp, ShiftOp, StoreOp};
@@ -16,6 +17,7 @@ use lg_sel::Items;
 use lg_selr_values::{
     FRAME_POINTER, Item, LINK, STACK_POINTER, imm, put_number, register_of, row, shift,
 };
+use lg_va::home;
 
 // The word of an operand into a register.
 #[tactic(auto, using(lg_selr_values::proofs::EmissionLemmas::number_few))]
@@ -77,17 +79,12 @@ pub fn put_argument(node: &Node, index: u32, items: &mut Items<Item>)
     }
 }
 
-// How far the place of an argument is from FP: its home, or the caller's stack word. The number is below 16.
+// How far an argument is from FP, in bytes. Its number is below 16.
 fn argument_offset(index: u32) -> i32
     requires { index < 16 }
     ensures { result ≡ argument_offset index }
 {
-    let index = index as i32;
-    if index < 8 {
-        -(32 + 8 * index)
-    } else {
-        16 + 8 * (index - 8)
-    }
+    home(Target::Riscv64, index)
 }
 
 /// Appends the code of a node that reads an argument of its function to no items: one instruction, or none where no function has so

@@ -103,5 +103,6 @@ module _ (code : List ℕ) (trash : ℕ) (small : length code ≤ most_code) (by
           ap (λ (r : Run CpuState). status_of r.progress) z,
           ap (λ (r : Run CpuState). r.out) z ∙ append-nil q.out,
           record { bytes = λ a lt. ap (λ (r : Run CpuState). r.state.bytes a) z; mark = ap (λ (r : Run CpuState). r.state.mark) z },
+          ap (λ (r : Run CpuState). r.state.pc) z,
         );
   }

@@ -12,10 +12,12 @@ ghost use Rattle.lg_selx.specs.Memory.VariableArgumentCode.{next_code, next_argu
 use crate::control::pointer_again;
 use crate::memory::accesses::load_row;
 use crate::memory::operands::register;
+use lg_base::Target;
 use lg_carry::memory::operands::{operand, slot};
 use lg_op::{Node, Operand, ValueType};
 use lg_sel::Items;
 use lg_selx_values::{FRAME_POINTER, Item, STACK_POINTER, lea, mov, put_number, register_of, row};
+use lg_va::home;
 use lg_x86::{ImmOp, Instr, LoadOp, RegRmOp, RmRegOp, ShiftOp, StoreOp};
 
 // The word of an operand into a register: at most one instruction.
@@ -99,16 +101,12 @@ pub fn put_argument(node: &Node, frame: u32, index: u32, items: &mut Items<Item>
     }
 }
 
-// How far behind FP an argument stands: in its home below, or in the caller's stack words above. The number is below 16.
+// How far an argument is from FP, in bytes. Its number is below 16.
 fn argument_offset(index: u32) -> i32
     requires { index < 16 }
     ensures { result ≡ argument_offset index }
 {
-    if index < 6 {
-        -((31 + 8 * index) as i32) - 1
-    } else {
-        (16 + 8 * (index - 6)) as i32
-    }
+    home(Target::X86_64, index)
 }
 
 // An argument into a register: from its home, or from the caller's stack word. The number is below 16.

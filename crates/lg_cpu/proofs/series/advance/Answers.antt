@@ -16,6 +16,7 @@ loop-went-init g c = record {
     Appends-nil _,
   );
   faults = refl;
+  within = omega arith;
 }
 
 pub returns-in_default : goal.returns-in_default
@@ -68,13 +69,14 @@ loop-went-preserved g c =
         Appends-trans _ _ _ i.there.0 (effect_in p).written i.there.2 h.2,
       );
       faults = h.3 ∙ i.faults;
+      within = omega (arith, c.loop-went-test.true);
     }
 
 pub returns-clause-says : goal.returns-clause-says
 returns-clause-says g c =
     let i = c.loop-went.invariant in
     let p = g.P.Stepping.inner c.loop-went.processor in
-    let most = c.loop-went.auto.went-end in
+    let most = i.within in
     let all = c.loop-went-test.false in
     let whole : c.loop-went.went ≡ c.args.most = omega (arith, most, all) in
     record {

@@ -1,4 +1,4 @@
-use Rattle.std.proofs.Common.{◌≡◌, ◌+◌, ℕ, List}
+use Rattle.std.proofs.Common.{◌≡◌, ◌+◌, ◌-◌, ◌≤◌, ℕ, List}
 use Rattle.std.specs.Io.KnownBytes.{Appends}
 use Rattle.lg_cpu.specs.Series.{IsAt, going_on}
 use Rattle.lg_cpu.proofs.series.advance.Given as goal
@@ -8,4 +8,8 @@ invariant-loop-went g l = record {
   there : (out : List ℕ) × IsAt (going_on (g.P.Stepping.inner l.fn.processor) l.fn.steps) (going_on (g.P.Stepping.inner l.processor) (l.fn.steps + l.went)) l.went out
       × Appends (g.O.Sink.taken l.fn.out) (g.O.Sink.taken l.out) out;
   faults : g.O.Sink.faults l.out ≡ g.O.Sink.faults l.fn.out;
+  within : l.went ≤ l.most;
 }
+
+abbrev pub decreases-loop-went : goal.decreases-loop-went
+decreases-loop-went g l = l.most - l.went

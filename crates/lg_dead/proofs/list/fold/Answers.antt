@@ -27,6 +27,6 @@ returns c =
       folds = ok-weaker (λ r. IsFoldedList l s r.nodes r.shape r.origin.items) (λ r. HasNoFolds r.nodes) r (λ x d. no-folds l x.nodes formed d.nodes) is;
       addresses = ok-weaker (λ r. IsFoldedList l s r.nodes r.shape r.origin.items) (λ r. CarriesAddresses l r.nodes) r (λ x d. fold-addresses l x.nodes d.nodes c.requires.accepted) is;
       runs = ok-weaker (λ r. IsFoldedList l s r.nodes r.shape r.origin.items) (λ r. RunsAreDropped l s r.nodes r.shape r.origin.items) r
-          (λ x d. λ size A image args are. subst (λ o. RunIsDropped l s x.nodes x.shape o A image args) (sym d.from) (folded-follow l x.nodes s x.shape A c.requires formed d.nodes (d.shaped.functions ∙ functions-same l x.nodes c.requires.accepted d.nodes ∙ sym c.requires.functions) d.taken image args)) is;
+          (λ x d. λ size A sp image args stack are. subst (λ o. RunIsDropped l s x.nodes x.shape o A sp image args) (sym d.from) (folded-follow l x.nodes s x.shape A c.requires formed d.nodes (d.shaped.functions ∙ functions-same l x.nodes c.requires.accepted d.nodes ∙ sym c.requires.functions) d.taken sp image args stack)) is;
       made = ok-weaker (λ r. IsFoldedList l s r.nodes r.shape r.origin.items) (λ r. IsFoldedTo l r.nodes) r (λ x d. d.nodes) is;
     }

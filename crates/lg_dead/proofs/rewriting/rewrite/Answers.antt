@@ -44,5 +44,5 @@ returns-in-Ok c =
         made = subst (ComesThreaded l t.nodes t.shape) (sym c.in-Ok.ensures) (record { middle = m.nodes; middle_shape = m.shape; first = m.origin.items; second = t.origin.items; moved = first.made; threaded = second.made; joined = refl });
       };
       addresses = λ size A are. first.addresses size A (second.addresses size A are);
-      runs = λ size A image args are. law l m.nodes t.nodes s m.shape t.shape A image args (first.runs size A image args (second.addresses size A are)) (second.runs size A image args are);
+      runs = λ size A sp image args stack are. law l m.nodes t.nodes s m.shape t.shape A sp image args (first.runs size A sp image args stack (second.addresses size A are)) (second.runs size A sp image args stack are);
     }

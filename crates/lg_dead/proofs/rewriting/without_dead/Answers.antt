@@ -31,6 +31,6 @@ returns c =
       of_use = e.of_use;
       addresses = ok-weaker (λ r. CarriesAddresses f.nodes r.nodes) (λ r. CarriesAddresses l r.nodes) r (λ x h. λ size A are. first.addresses size A (h size A are)) e.addresses;
       runs = ok-two (λ r. CarriesAddresses f.nodes r.nodes) (λ r. RunsAreDropped f.nodes f.shape r.nodes r.shape r.origin.items) (λ r. RunsRest l s r.nodes r.shape) r
-          (λ x h d. λ size A image args are. twice l f.nodes x.nodes s f.shape x.shape A image args (first.runs size A image args (h size A are)).0 (d size A image args are).0) e.addresses e.runs;
+          (λ x h d. λ size A sp image args stack are. twice l f.nodes x.nodes s f.shape x.shape A sp image args (first.runs size A sp image args stack (h size A are)).0 (d size A sp image args stack are).0) e.addresses e.runs;
       made = ok-weaker (λ r. IsDroppedTo f.nodes f.shape r.nodes r.shape r.origin.items) (λ r. ComesNeeded l r.nodes r.shape r.origin.items) r (λ x d. record { middle = f.nodes; middle_shape = f.shape; shaped = first.shape; folded = to; dropped = d }) e.made;
     }

@@ -45,6 +45,6 @@ returns-in-Ok c =
       folds = subst HasNoFolds (sym second.made.nodes) (moves-keep n.nodes first.shape.accepted formed first.folds);
       dead = subst (λ (x : LabelledNodes). HasNoDeadButMoves x t.shape) (sym second.made.nodes) (no-dead-but-moves n.nodes n.shape t.shape first.shape formed second.made.taken first.of_use);
       addresses = λ size A are. first.addresses size A (second.addresses size A are);
-      runs = λ size A image args are. twice l n.nodes t.nodes s n.shape t.shape A image args (first.runs size A image args (second.addresses size A are)) (second.runs size A image args are).0;
+      runs = λ size A sp image args stack are. twice l n.nodes t.nodes s n.shape t.shape A sp image args (first.runs size A sp image args stack (second.addresses size A are)) (second.runs size A sp image args stack are).0;
       made = subst (ComesMoved l t.nodes t.shape) (sym c.in-Ok.ensures) (record { middle = n.nodes; middle_shape = n.shape; first = n.origin.items; second = t.origin.items; needed = first.made; dropped = second.made; joined = refl });
     }

@@ -13,8 +13,8 @@ invariant-loop-texts g l = record {
   few : length l.text.items ≤ most_text + most_piece;
   same : g.T.Texts.faults l.texts ≡ g.T.Texts.faults l.fn.texts;
   sure : g.T.Texts.sure l.fn.texts ≡ true → g.T.Texts.sure l.texts ≡ true;
-  before : (g.T.Texts.reading l.fn.texts).at_end ≡ false → (g.T.Texts.reading l.texts).at_end ≡ false;
-  on : (g.T.Texts.reading l.fn.texts).at_end ≡ false → IsReadOn (g.T.Texts.reading l.fn.texts) (g.T.Texts.reading l.texts);
+  before : (g.T.Texts.reading l.fn.texts).is_over ≡ false → (g.T.Texts.reading l.texts).is_over ≡ false;
+  on : (g.T.Texts.reading l.fn.texts).is_over ≡ false → IsReadOn (g.T.Texts.reading l.fn.texts) (g.T.Texts.reading l.texts);
 }
 
 abbrev pub decreases-loop-texts : goal.decreases-loop-texts

@@ -1,4 +1,4 @@
-use Rattle.std.proofs.Common.{◌≡◌, ◌+◌, ◌-◌, sym, ap, ◌∙◌, arith}
+use Rattle.std.proofs.Common.{◌+◌, ◌-◌, sym, ap, ◌∙◌, arith}
 use Rattle.lg_cells.specs.Cells.{is_room}
 use Rattle.lg_cells.specs.Memories.{room_at}
 use Rattle.lg_cells.proofs.LoadLemmas.{writable_fails, writable_goes, writable_empty}

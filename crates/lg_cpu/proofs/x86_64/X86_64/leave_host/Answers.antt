@@ -1,4 +1,4 @@
-use Rattle.std.proofs.Common.{ℕ, subst}
+use Rattle.std.proofs.Common.{ℕ, subst, ◌∙◌}
 use Rattle.std.specs.Prelude.{slice_index}
 use Rattle.lg_base.specs.declared.flags.Flags.{Flags}
 use Rattle.lg_cpu.specs.States.{arrives}
@@ -10,4 +10,4 @@ pub returns : goal.returns
 returns c =
     let old = c.args.self.now in
     subst (λ (g : ℕ → ℕ). Does (arrives c.args.link g no_flags (x86_state old).bytes (x86_state old).mark) (x86_inner old) (x86_inner c.go.new.self) c.go.result) c.registers_behind_return-self.ensures
-    (subst (λ (f : Flags). Does (arrives c.args.link (slice_index c.registers_behind_return-self.result) f (x86_state old).bytes (x86_state old).mark) (x86_inner old) (x86_inner c.go.new.self) c.go.result) c.no_flags-self.ensures c.go.ensures)
+    (subst (λ (f : Flags). Does (arrives c.args.link (slice_index c.registers_behind_return-self.result) f (x86_state old).bytes (x86_state old).mark) (x86_inner old) (x86_inner c.go.new.self) c.go.result) (c.set.ensures ∙ c.no_flags.ensures) c.go.ensures)

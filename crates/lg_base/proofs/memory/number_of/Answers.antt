@@ -1,0 +1,41 @@
+use Rattle.std.proofs.Common.{◌≡◌, ◌+◌, ◌-◌, sym, arith}
+use Rattle.lg_base.specs.Spaces.{number_at}
+use Rattle.std.specs.Prelude.{slice_index}
+use Rattle.lg_base.proofs.SpaceLemmas.{number_at-none, number_at-step, number_at-room, number_at-half}
+use Rattle.lg_base.proofs.memory.number_of.Goals as goal
+
+pub loop-left-init : goal.loop-left-init
+loop-left-init c = record { number = sym (number_at-none _ _ _ (omega arith)); within = omega arith }
+
+pub overflow_mul-number : goal.overflow_mul-number
+overflow_mul-number c =
+    let i = c.loop-left.invariant in
+    omega (arith, i.number, number_at-room (slice_index c.args.bytes.now) (c.args.at + c.loop-left.left) (c.args.width - c.loop-left.left) (λ j. omega (arith, c.type_inv.bytes j)) (omega arith))
+
+pub overflow_add-number : goal.overflow_add-number
+overflow_add-number c =
+    let i = c.loop-left.invariant in
+    omega (arith, i.number, c.type_inv.bytes (c.args.at + (c.loop-left.left - 1)), number_at-room (slice_index c.args.bytes.now) (c.args.at + c.loop-left.left) (c.args.width - c.loop-left.left) (λ j. omega (arith, c.type_inv.bytes j)) (omega arith))
+
+pub loop-left-preserved : goal.loop-left-preserved
+loop-left-preserved c =
+    let i = c.loop-left.invariant in
+    let f = slice_index c.args.bytes.now in
+    let at = c.args.at + (c.loop-left.left - 1) in
+    let step = number_at-step f at (c.args.width - (c.loop-left.left - 1)) (c.args.at + c.loop-left.left) (c.args.width - c.loop-left.left) (omega arith) (omega arith) in
+    record { number = omega (arith, step, i.number); within = omega arith }
+
+pub returns-clause-small : goal.returns-clause-small
+returns-clause-small c =
+    let i = c.loop-left.invariant in
+    let zero : c.args.at + c.loop-left.left ≡ c.args.at = omega arith in
+    let all : c.args.width - c.loop-left.left ≡ c.args.width = omega arith in
+    let is : c.loop-left.number ≡ number_at (slice_index c.args.bytes.now) c.args.at c.args.width = rw (zero, all) at i.number in
+    λ few. omega (arith, is, number_at-half (slice_index c.args.bytes.now) c.args.at c.args.width (λ j. omega (arith, c.type_inv.bytes j)) few)
+
+pub returns-clause-value : goal.returns-clause-value
+returns-clause-value c =
+    let i = c.loop-left.invariant in
+    let zero : c.args.at + c.loop-left.left ≡ c.args.at = omega arith in
+    let all : c.args.width - c.loop-left.left ≡ c.args.width = omega arith in
+    rw (zero, all) at i.number

@@ -1,6 +1,0 @@
-use Rattle.std.proofs.Common.{◌≡◌}
-use Rattle.lg_cells.specs.Cells.{cell_of, with_cells}
-use Rattle.lg_cells.proofs.cell.fill.Given as goal
-
-abbrev pub invariant-loop-i : goal.invariant-loop-i
-invariant-loop-i l = cell_of l.cells ≡ with_cells (cell_of l.initial.cells) l.from l.i l.cell
