@@ -1,5 +1,5 @@
 -- The memory of a run: four parts at fixed addresses, which never touch.
-use Rattle.std.specs.Prelude.{◌≡◌, ℕ, ◌+◌, ◌-◌, ◌≤◌, ◌⊎◌, ◌&&◌, Bool, List, length, slice_index, nat_lt, nat_le, Option, Some, None, if◌then◌else◌}
+use Rattle.std.specs.Prelude.{◌≡◌, ℕ, ◌+◌, ◌-◌, ◌≤◌, ◌⊎◌, ◌&&◌, Bool, List, length, take, drop, slice_index, nat_lt, nat_le, Option, Some, None, if◌then◌else◌}
 
 -- the bytes of each part
 pub record Parts : Type 0 where
@@ -53,6 +53,10 @@ lies_in base bytes address width = nat_le base address && nat_le (address + widt
 
 abbrev pub LiesIn : ℕ → List ℕ → ℕ → ℕ → Type 0
 LiesIn base bytes address width = (base ≤ address) × (address + width ≤ base + length bytes)
+
+-- a list is the range of a part's bytes that has len addresses from one on
+abbrev pub IsRangeOf : List ℕ → (base address len : ℕ) → List ℕ → Type 0
+IsRangeOf bytes base address len range = LiesIn base bytes address len × (range ≡ take len (drop (address - base) bytes))
 
 -- they lie in one of the four parts
 abbrev pub LiesInOnePart : Parts → ℕ → ℕ → Type 0

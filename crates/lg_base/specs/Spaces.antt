@@ -1,6 +1,6 @@
 -- Bytes by their addresses: what can be read is a function from addresses to bytes, absent where nothing
 -- can be read, and what can be written is a test of addresses.
-use Rattle.std.specs.Prelude.{ℕ, zero, suc, ◌+◌, ◌*◌, ◌/◌, ◌%◌, ◌==◌, ◌&&◌, ◌||◌, Bool, true, nat_lt, nat_le, Option, Some, None, is_some, unwrap_or, if◌then◌else◌}
+use Rattle.std.specs.Prelude.{◌≡◌, ℕ, zero, suc, ◌+◌, ◌*◌, ◌/◌, ◌%◌, ◌<◌, ◌==◌, ◌&&◌, ◌||◌, Bool, true, nat_lt, nat_le, List, length, slice_index, Option, Some, None, is_some, unwrap_or, if◌then◌else◌}
 
 -- the bytes with one written
 abbrev pub put_some : (ℕ → Option ℕ) → ℕ → ℕ → ℕ → Option ℕ
@@ -22,6 +22,10 @@ readable bytes a = is_some (bytes a)
 unfoldable pub mapped : (ℕ → Option ℕ) → ℕ → ℕ → Bool
 mapped bytes address zero = true
 mapped bytes address (suc width) = is_some (bytes address) && mapped bytes (address + 1) width
+
+-- a list has the bytes of len addresses from one on
+abbrev pub HasBytes : (ℕ → Option ℕ) → (address len : ℕ) → List ℕ → Type 0
+HasBytes bytes address len list = (length list ≡ len) × ((k : ℕ) → k < len → bytes (address + k) ≡ Some (slice_index list k))
 
 -- the number of width bytes from a place on, the lowest byte first
 unfoldable pub number_at : (ℕ → ℕ) → ℕ → ℕ → ℕ

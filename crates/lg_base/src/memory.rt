@@ -1,8 +1,8 @@
 // The memory of a run.
 
-ghost use Rattle.std.specs.Prelude.{◌≡◌, ℕ, ◌+◌, ◌-◌, ◌^◌, ◌<◌, ◌≤◌, ◌⊎◌, ◌↔◌, List, length, slice_index, vec_capacity, true, false, IfOk, IsSome, IsTrue, if◌then◌else◌};
+ghost use Rattle.std.specs.Prelude.{◌≡◌, ℕ, ◌+◌, ◌-◌, ◌^◌, ◌<◌, ◌≤◌, ◌⊎◌, ◌↔◌, List, length, slice_index, vec_capacity, true, false, IfOk, IfSome, IsSome, IsTrue, if◌then◌else◌};
 ghost use Rattle.lg_base.specs.Spaces.{number_at, written, loaded, mapped, stored};
-ghost use Rattle.lg_base.specs.Parts.{byte_at, lies_in, LiesInOnePart, IsSized, IsZeroed};
+ghost use Rattle.lg_base.specs.Parts.{byte_at, lies_in, IsRangeOf, LiesInOnePart, IsSized, IsZeroed};
 
 mod heap;
 mod stack;
@@ -72,6 +72,19 @@ fn lies_in_fixed(size: u64, base: u64, address: u64, width: u32) -> bool
     ensures { (bytes : List ℕ) → length bytes ≡ size → result ≡ lies_in base bytes address width }
 {
     address.wrapping_sub(base) <= size - u64::from(width)
+}
+
+// Returns a range of the bytes of a part that begins at `base`, where they have all of it.
+fn range_of(bytes: &[u8], base: u64, address: u64, len: u64) -> Option<&[u8]>
+    requires { base + length bytes.now < 2 ^ 64 }
+    ensures { IfSome result (λ range. IsRangeOf bytes.now base address len range.now) }
+{
+    let held = bytes.len() as u64;
+    if address < base || held < len || address - base > held - len {
+        return None;
+    }
+    let start = (address - base) as usize;
+    Some(&bytes[start..start + len as usize])
 }
 
 // Returns the byte at a place, or 0 past the end.
@@ -329,6 +342,16 @@ impl Space for Memory {
             return Some(self.stack.get((address - STACK) as usize));
         }
         None
+    }
+
+    fn slice(&self, address: u64, len: u64) -> Option<&[u8]> {
+        if let Some(bytes) = range_of(&self.data, DATA_BASE, address, len) {
+            return Some(bytes);
+        }
+        if let Some(bytes) = range_of(&self.args, ARGS, address, len) {
+            return Some(bytes);
+        }
+        range_of(self.heap.held(), HEAP, address, len)
     }
 
     fn can_put(&self, address: u64) -> bool {

@@ -1,7 +1,7 @@
 // Bytes by their addresses, whatever holds them.
 
-ghost use Rattle.std.specs.Prelude.{◌≡◌, ℕ, ◌≤◌, Bool, Option, if◌then◌else◌};
-ghost use Rattle.lg_base.specs.Spaces.{put_some, raised};
+ghost use Rattle.std.specs.Prelude.{◌≡◌, ℕ, ◌≤◌, Bool, Option, IfSome, if◌then◌else◌};
+ghost use Rattle.lg_base.specs.Spaces.{HasBytes, put_some, raised};
 
 /// Bytes that can be read and written by their addresses.
 pub trait Space {
@@ -14,6 +14,10 @@ pub trait Space {
     /// The byte at an address, and None exactly where none can be read.
     fn get(&self, address: u64) -> Option<u8>
         ensures { result ≡ byte_of self.now address };
+
+    /// Returns the bytes of `len` addresses from one on as a slice, where the space holds them so. It may return None for every range.
+    fn slice(&self, address: u64, len: u64) -> Option<&[u8]>
+        ensures { IfSome result (λ bytes. HasBytes (byte_of self.now) address len bytes.now) };
 
     /// Whether an address can be written.
     fn can_put(&self, address: u64) -> bool

@@ -349,6 +349,11 @@ impl Space for CellMemory {
         self.byte(address)
     }
 
+    fn slice(&self, _address: u64, _len: u64) -> Option<&[u8]> {
+        // each byte has its mark beside it
+        None
+    }
+
     fn can_put(&self, address: u64) -> bool {
         self.is_room(address)
     }

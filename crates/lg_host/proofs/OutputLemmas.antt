@@ -1,14 +1,16 @@
 -- Output that was passed on in pieces, and prefixes of it.
 use Rattle.std.proofs.Common.{◌≡◌, ℕ, zero, suc, ◌+◌, ◌-◌, ◌%◌, ◌^◌, ◌<◌, ◌≤◌, List, [], ◌∷◌, ◌++◌, length, take, drop, get_or, Option, refl, sym, ap, ap₂, ◌∙◌, subst, arith, append_assoc, drop-cons}
-use Rattle.std.specs.Prelude.{replicate, unwrap_or, Result, Ok, Err}
+use Rattle.std.specs.Prelude.{replicate, slice_index, unwrap_or, Result, Ok, Err, Some, OnOk, OnErr}
 use Rattle.std.specs.Io.KnownBytes.{Appends}
 use Rattle.std.proofs.KnownBytes.{Appends-nil, Appends-trans}
 use Rattle.std.proofs.lemmas.List.{take-append-drop, append-nil, take_more, replicate-append-replicate, replicate_more}
+use Rattle.lg_base.specs.Spaces.{HasBytes}
+use Rattle.lg_io.specs.Counts.{HasCause}
 use Rattle.lg_io.specs.Wrote.{AppendsPrefix, Wrote}
 use Rattle.lg_io.proofs.WroteLemmas.{AppendsPrefix-after}
 use Rattle.lg_host.specs.Host.{int_answer}
 use Rattle.lg_host.specs.Runs.{Bytes}
-use Rattle.lg_host.specs.Output.{Output, PassesOn, bytes_from, part_bytes, parts_bytes}
+use Rattle.lg_host.specs.Output.{Output, PassesOn, Passed, output, bytes_from, part_bytes, parts_bytes}
 use Rattle.lg_host.specs.declared.parts.Part.{Part}
 
 -- ---- passing on
@@ -43,6 +45,20 @@ PassesOn-cut a b new bytes e p h = AppendsPrefix-after a.taken b.taken new p.0 b
 pub Wrote-flushed : {T E : Type 0} (a b : Output) (new : Option (List ℕ)) (now : ℕ) (result : Result T E) (bytes : List ℕ) → a.waiting ≡ [] → PassesOn a b bytes → b.faults ≡ a.faults → Wrote b.taken new b.faults now result b.waiting → Wrote a.taken new a.faults now result bytes
 Wrote-flushed a b new now (Ok x) bytes e p le h = record { ok = PassesOn-flushed a b new bytes e p h.ok; err = tt; cause = record { later = omega (arith, le, h.cause.later); kept = h.cause.kept ∙ le; failed = tt } }
 Wrote-flushed a b new now (Err x) bytes e p le h = record { ok = tt; err = PassesOn-cut a b new bytes e p h.err; cause = record { later = omega (arith, le, h.cause.later); kept = tt; failed = omega (arith, le, h.cause.failed) } }
+
+-- those that waited went to the sink, and then others were written at once
+pub Passed-written : {T E : Type 0} (a : Output) (mid new : Option (List ℕ)) (between now : ℕ) (result : Result T E) (bytes : List ℕ) → Appends a.taken mid a.waiting → between ≡ a.faults
+    → OnOk result (Appends mid new bytes) → OnErr result (AppendsPrefix mid new bytes) → HasCause between now result → Passed a (output new [] now) result bytes
+Passed-written a mid new between now (Ok x) bytes p same ok err cause = record {
+  ok = (a.waiting ++ bytes, Appends-trans a.taken mid new a.waiting bytes p ok, sym (append-nil (a.waiting ++ bytes)));
+  err = tt;
+  cause = record { later = omega (arith, same, cause.later); kept = cause.kept ∙ same; failed = tt };
+}
+Passed-written a mid new between now (Err x) bytes p same ok err cause = record {
+  ok = tt;
+  err = AppendsPrefix-after a.taken mid new a.waiting bytes [] (a.waiting ++ bytes) (ap (λ x. a.waiting ++ x) (sym (append-nil bytes))) p err;
+  cause = record { later = omega (arith, same, cause.later); kept = tt; failed = omega (arith, same, cause.failed) };
+}
 
 -- ---- pieces
 pub parts_bytes-append : (m : Bytes) (ps qs : List Part) → parts_bytes m (ps ++ qs) ≡ parts_bytes m ps ++ parts_bytes m qs
@@ -81,6 +97,17 @@ bytes_from-split m a at to le lt =
     let e : to - a ≡ at + 1 - a + (to - (at + 1)) = omega arith in
     let f : a + (at + 1 - a) ≡ at + 1 = omega arith in
     ap (λ n. bytes_from n m a) e ∙ bytes_from-add (at + 1 - a) (to - (at + 1)) m a ∙ ap₂ (λ x y. x ++ bytes_from (to - (at + 1)) m y) (bytes_from-more m a at le) f ∙ append_assoc (bytes_from (at - a) m a) (unwrap_or (m at) 0 ∷ []) (bytes_from (to - (at + 1)) m (at + 1))
+
+-- those that a list has
+pub bytes_from-list : (m : Bytes) (a n : ℕ) (list : List ℕ) → HasBytes m a n list → bytes_from n m a ≡ list
+bytes_from-list m a n list h = ap (λ k. bytes_from k m a) (sym h.0) ∙ each list a (λ k lt. h.1 k (omega (arith, lt, h.0)))
+  where
+    each : (xs : List ℕ) (b : ℕ) → ((k : ℕ) → k < length xs → m (b + k) ≡ Some (slice_index xs k)) → bytes_from (length xs) m b ≡ xs
+    each [] b at = refl
+    each (x ∷ xs) b at =
+        let first : b ≡ b + 0 = omega arith in
+        ap₂ (λ u v. u ∷ v) (ap (λ i. unwrap_or (m i) 0) first ∙ ap (λ o. unwrap_or o 0) (at 0 (omega arith)))
+        (each xs (b + 1) (λ k lt. let next : b + 1 + k ≡ b + suc k = omega arith in ap m next ∙ at (suc k) (omega (arith, lt))))
 
 -- an int looks at the low bits alone
 pub int_answer-low : (n : ℕ) → int_answer (n % 2 ^ 64) ≡ int_answer n

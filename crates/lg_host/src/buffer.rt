@@ -88,8 +88,8 @@ impl Buffer {
         Ok(())
     }
 
-    /// Passes on bytes.
-    pub fn put<O: Sink>(&mut self, bytes: &[u8], out: &mut O) -> Result<(), SinkFault>
+    // Passes on bytes one by one.
+    fn push_each<O: Sink>(&mut self, bytes: &[u8], out: &mut O) -> Result<(), SinkFault>
         ensures { Passed (output (O.taken out.old) self.old (O.faults out.old))
             (output (O.taken out.new) self.new (O.faults out.new)) result bytes.now }
     {
@@ -100,5 +100,27 @@ impl Buffer {
             }
         }
         Ok(())
+    }
+
+    // Writes the bytes that wait, and then others at once.
+    fn write_through<O: Sink>(&mut self, bytes: &[u8], out: &mut O) -> Result<(), SinkFault>
+        ensures { Passed (output (O.taken out.old) self.old (O.faults out.old))
+            (output (O.taken out.new) self.new (O.faults out.new)) result bytes.now }
+    {
+        match self.flush(out) {
+            Ok(()) => write_all(out, bytes),
+            Err(fault) => Err(fault),
+        }
+    }
+
+    /// Passes on bytes: more than 64 by one write of them all.
+    pub fn put<O: Sink>(&mut self, bytes: &[u8], out: &mut O) -> Result<(), SinkFault>
+        ensures { Passed (output (O.taken out.old) self.old (O.faults out.old))
+            (output (O.taken out.new) self.new (O.faults out.new)) result bytes.now }
+    {
+        if bytes.len() > 64 {
+            return self.write_through(bytes, out);
+        }
+        self.push_each(bytes, out)
     }
 }

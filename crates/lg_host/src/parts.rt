@@ -38,8 +38,8 @@ fn put_fill<O: Sink>(
     Ok(())
 }
 
-// Passes on what stands in memory.
-fn put_text<S: Space, O: Sink>(
+// Passes on what memory holds, byte by byte.
+fn put_each<S: Space, O: Sink>(
     mem: &S,
     from: u64,
     to: u64,
@@ -56,6 +56,23 @@ fn put_text<S: Space, O: Sink>(
         }
     }
     Ok(())
+}
+
+// Passes on what memory holds: at once where it is a slice of it.
+fn put_text<S: Space, O: Sink>(
+    mem: &S,
+    from: u64,
+    to: u64,
+    buffer: &mut Buffer,
+    out: &mut O,
+) -> Result<(), SinkFault>
+    ensures { Passed (output (O.taken out.old) buffer.old (O.faults out.old))
+        (output (O.taken out.new) buffer.new (O.faults out.new)) result (bytes_from (to - from) (S.byte_of mem.now) from) }
+{
+    match mem.slice(from, to.saturating_sub(from)) {
+        Some(bytes) => buffer.put(bytes, out),
+        None => put_each(mem, from, to, buffer, out),
+    }
 }
 
 // Passes on one piece.

@@ -9,6 +9,7 @@ ghost use Rattle.std.specs.List.{prefix_len};
 ghost use Rattle.std.specs.Prelude.{◌&&◌, ◌==◌};
 
 use crate::pieces::{PieceKind, Pieces};
+use crate::spare::Spare;
 use lg_base::OutOfMemory;
 use std::alloc::Global;
 
@@ -99,7 +100,7 @@ fn solid_len(pieces: &Pieces) -> usize
 }
 
 // Pieces without the white space at their ends. They are not copied where none is there.
-pub(crate) fn without_ends(alloc: Global, pieces: Pieces) -> Result<Pieces, OutOfMemory>
+pub(crate) fn without_ends(spare: &mut Spare, pieces: Pieces) -> Result<Pieces, OutOfMemory>
     ensures { IfOk result (λ r. r ≡ stripped pieces) }
 {
     let end = solid_len(&pieces);
@@ -107,7 +108,10 @@ pub(crate) fn without_ends(alloc: Global, pieces: Pieces) -> Result<Pieces, OutO
     if start == 0 && end == pieces.len() {
         return Ok(pieces);
     }
-    stripped(alloc, &pieces)
+    let mut solid = spare.take();
+    solid.append_between(&pieces, start, end)?;
+    spare.give(pieces);
+    Ok(solid)
 }
 
 /// Pieces without the white space at their ends.
@@ -135,10 +139,14 @@ fn white_len(pieces: &Pieces, end: usize) -> usize
 }
 
 // Adds an argument, without the white space at its ends.
-fn push_stripped(done: &mut Vec<Pieces>, alloc: Global, argument: Pieces) -> Result<(), OutOfMemory>
+fn push_stripped(
+    done: &mut Vec<Pieces>,
+    spare: &mut Spare,
+    argument: Pieces,
+) -> Result<(), OutOfMemory>
     ensures { OnOk result (done.new.items ≡ done.old.items ++ stripped argument ∷ []) }
 {
-    let solid = without_ends(alloc, argument)?;
+    let solid = without_ends(spare, argument)?;
     done.push(solid)?;
     Ok(())
 }
@@ -146,6 +154,7 @@ fn push_stripped(done: &mut Vec<Pieces>, alloc: Global, argument: Pieces) -> Res
 // The arguments between the parentheses of a call.
 pub(crate) fn gathered(
     alloc: Global,
+    spare: &mut Spare,
     pieces: &Pieces,
     from: usize,
     end: usize,
@@ -156,19 +165,19 @@ pub(crate) fn gathered(
     ensures { IfOk result (λ r. r.items ≡ gathered line 0 [] [] (between from end pieces.now)) }
 {
     let mut done: Vec<Pieces> = Vec::new(alloc);
-    let mut now = Pieces::new(alloc);
+    let mut now = spare.take();
     let mut depth = 0;
     'pieces: for at in from..end {
         let kind = pieces.kind(at);
         if ends(kind, b',', depth) {
-            push_stripped(&mut done, alloc, now)?;
-            now = Pieces::new(alloc);
+            push_stripped(&mut done, spare, now)?;
+            now = spare.take();
         } else {
             depth = depth_behind(depth, kind);
             push_in(&mut now, pieces, at, line)?;
         }
     }
-    push_stripped(&mut done, alloc, now)?;
+    push_stripped(&mut done, spare, now)?;
     Ok(done)
 }
 
@@ -186,6 +195,7 @@ fn is_empty_list(arguments: &[Pieces]) -> bool
 #[tactic(auto, unfolding(crate::specs::Arguments::arguments_of))]
 pub fn arguments(
     alloc: Global,
+    spare: &mut Spare,
     pieces: &Pieces,
     from: usize,
     end: usize,
@@ -196,7 +206,7 @@ pub fn arguments(
     requires inside { end ≤ length pieces.now }
     ensures { IfOk result (λ r. option_map (λ v. v.items) r ≡ arguments_of arity line (between from end pieces.now)) }
 {
-    let all = gathered(alloc, pieces, from, end, line)?;
+    let all = gathered(alloc, spare, pieces, from, end, line)?;
     if arity == 0 && is_empty_list(&all) {
         return Ok(Some(Vec::new(alloc)));
     }

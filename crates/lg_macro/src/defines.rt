@@ -13,6 +13,7 @@ use crate::body::{Body, body_of, size_of};
 use crate::macros::Macro;
 use crate::pieces::{PieceKind, Pieces};
 use crate::plain_text::PlainText;
+use crate::spare::Spare;
 use lg_base::OutOfMemory;
 use std::alloc::Global;
 
@@ -161,7 +162,8 @@ fn parameters_of(
     requires inside { end ≤ length pieces.now }
     ensures { IfOk result (λ r. option_map (λ v. v.items) r ≡ parameters_of (between from end pieces.now)) }
 {
-    let groups = gathered(alloc, pieces, from, end, 0)?;
+    let mut spare = Spare::new(alloc);
+    let groups = gathered(alloc, &mut spare, pieces, from, end, 0)?;
     if no_group(&groups) {
         return Ok(Some(Vec::new(alloc)));
     }
@@ -193,7 +195,7 @@ pub fn stripped_from(alloc: Global, pieces: &Pieces, from: usize) -> Result<Piec
 {
     let mut behind = Pieces::with_room(alloc, pieces.len() - from, pieces.size())?;
     behind.append_between(pieces, from, pieces.len())?;
-    without_ends(alloc, behind)
+    without_ends(&mut Spare::new(alloc), behind)
 }
 
 // A macro whose body these pieces are.

@@ -10,6 +10,7 @@ mod macros;
 mod marks;
 mod pieces;
 mod plain_text;
+mod spare;
 mod substitution;
 mod text;
 
@@ -18,5 +19,6 @@ pub use defines::{one_word, spliced, stripped_from, written};
 pub use macros::{MOST_HELD, Macro, Table, Work, count, hold, is_hidden, refused};
 pub use pieces::{PieceKind, Pieces};
 pub use plain_text::PlainText;
+pub use spare::Spare;
 pub use substitution::substituted;
 pub use text::{line_len, mark_in, text_pieces};

@@ -10,6 +10,7 @@ ghost use Rattle.lg_base.specs.declared.refusal.Stop.TheVariants.{Refused};
 use crate::marks::Marks;
 use crate::pieces::Pieces;
 use crate::plain_text::PlainText;
+use crate::spare::Spare;
 use indexmap::IndexSet;
 use lg_base::layout::MOST_TEXT;
 use lg_base::{OutOfMemory, Refusal, RefusalKind, Stop};
@@ -138,6 +139,8 @@ pub struct Work {
     pub sum: usize,
     /// How many bytes the lists may still have that calls hold.
     pub room: usize,
+    /// Lists that are not in use.
+    pub spare: Spare,
 }
 
 /// The most bytes of the lists that calls hold at once: no definition bounds them.

@@ -10,6 +10,7 @@ use crate::cutting::push_cut;
 use crate::macros::{Macro, Mark};
 use crate::marks::Marks;
 use crate::pieces::Pieces;
+use crate::spare::Spare;
 use lg_base::OutOfMemory;
 use std::alloc::Global;
 
@@ -166,6 +167,7 @@ fn fill_one(
 #[tactic(auto, unfolding(crate::specs::Substitution::substituted))]
 pub fn substituted(
     alloc: Global,
+    spare: &mut Spare,
     entry: &Macro,
     line: u32,
     raw: &[Pieces],
@@ -174,7 +176,7 @@ pub fn substituted(
     ensures { IfOk result (λ r. r ≡ substituted line entry.now.body entry.now.marks raw.now full.now) }
 {
     let end = entry.body.len().min(entry.marks.len());
-    let mut done = Pieces::with_room(alloc, end, entry.body.size())?;
+    let mut done = spare.take();
     let mut now = Pieces::new(alloc);
     'body: for at in 0..end {
         fill_one(&mut done, &mut now, alloc, entry, line, raw, full, at)?;

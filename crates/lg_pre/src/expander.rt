@@ -19,8 +19,8 @@ use crate::questions::asks;
 use lg_base::{OutOfMemory, RefusalKind, Stop};
 use lg_macro::arguments::stripped;
 use lg_macro::{
-    MOST_HELD, Pieces, PlainText, Table, Work, line_len, mark_in, one_word, push_cut, refused,
-    spliced, stripped_from, text_pieces, written,
+    MOST_HELD, Pieces, PlainText, Spare, Table, Work, line_len, mark_in, one_word, push_cut,
+    refused, spliced, stripped_from, text_pieces, written,
 };
 use memchr::memchr;
 use memchr::memmem::find;
@@ -161,10 +161,11 @@ impl Expander {
             hidden: Vec::new(alloc),
             sum: self.sum,
             room: MOST_HELD,
+            spare: Spare::new(alloc),
         };
         flush(&self.table, &mut work, &self.lines, &mut self.given)?;
         self.sum = work.sum;
-        self.lines = Pieces::new(alloc);
+        self.lines.clear();
         Ok(())
     }
 
@@ -174,7 +175,7 @@ impl Expander {
     {
         let end = self.lines.len();
         feed(alloc, &self.lines, 0, end, &mut self.given)?;
-        self.lines = Pieces::new(alloc);
+        self.lines.clear();
         Ok(())
     }
 

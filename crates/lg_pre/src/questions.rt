@@ -11,7 +11,7 @@ ghost use Rattle.std.specs.Prelude.{◌∷◌};
 use lg_base::layout::MOST_TEXT;
 use lg_base::{OutOfMemory, RefusalKind, Stop};
 use lg_lex::{Lexer, TokenKind};
-use lg_macro::{MOST_HELD, PieceKind, Pieces, PlainText, Table, Work, refused};
+use lg_macro::{MOST_HELD, PieceKind, Pieces, PlainText, Spare, Table, Work, refused};
 use lg_replacement::expand;
 use std::alloc::Global;
 
@@ -247,6 +247,7 @@ fn question(
         hidden: Vec::new(alloc),
         sum: *sum,
         room: MOST_HELD,
+        spare: Spare::new(alloc),
     };
     let mut out = Pieces::new(alloc);
     let resolved = resolved(alloc, table, pieces)?;

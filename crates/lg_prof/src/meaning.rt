@@ -38,7 +38,7 @@ pub fn count_meaning(
     steps_are_those_of_the_meaning();
     let mut nowhere = Nowhere;
     for _turn in 0..most {
-        let line = unit.nodes.node(machine.at()).line;
+        let line = unit.nodes.node_at(machine.at()).line;
         match machine.step(unit, shape, &mut nowhere) {
             MeanStep::Went => tally.ran(line),
             MeanStep::Ended(_) => {

@@ -218,12 +218,21 @@ fn called(
     let _end = pieces.len();
     let line = pieces.line(at);
     let from = at + 1 + begun;
-    match arguments(work.alloc, pieces, from, from + len, arity, line)? {
+    match arguments(
+        work.alloc,
+        &mut work.spare,
+        pieces,
+        from,
+        from + len,
+        arity,
+        line,
+    )? {
         None => Err(refused(RefusalKind::BadMacro, line)),
         Some(raw) => {
             let room = work.room;
             with_arguments(table, work, place, entry, line, &raw, levels, out)?;
             work.room = room;
+            work.spare.give_all(raw);
             push_feeds(out, pieces, at + 1, from + len + 1, line)?;
             Ok(begun + len + 1)
         }
@@ -254,7 +263,9 @@ fn with_arguments(
     work.room = behind;
     let full = each(table, work, line, raw, levels)?;
     work.room = room.saturating_sub(behind.saturating_sub(work.room));
-    put(table, work, place, entry, line, raw, &full, levels, out)
+    let done = put(table, work, place, entry, line, raw, &full, levels, out);
+    work.spare.give_all(full);
+    done
 }
 
 // The arguments expanded, one after the other.
@@ -272,7 +283,7 @@ fn each(
 {
     let mut done: Vec<Pieces> = Vec::new(work.alloc);
     'raw: for i in 0..raw.len() {
-        let mut full = Pieces::new(work.alloc);
+        let mut full = work.spare.take();
         expand(table, work, &raw[i], line, levels, &mut full)?;
         add(&mut done, full, &mut work.room)?;
     }
@@ -313,6 +324,7 @@ fn put(
 {
     let body = hide(work, place, entry, line, raw, full)?;
     expand(table, work, &body, line, levels, out)?;
+    work.spare.give(body);
     let _ = work.hidden.pop();
     Ok(())
 }
@@ -333,7 +345,7 @@ fn hide(
     if work.hidden.push(place).is_err() {
         return Err(Stop::OutOfMemory);
     }
-    match substituted(work.alloc, entry, line, raw, full) {
+    match substituted(work.alloc, &mut work.spare, entry, line, raw, full) {
         Ok(body) if hold(&mut work.room, &body) => Ok(body),
         _ => Err(Stop::OutOfMemory),
     }

@@ -1,6 +1,6 @@
 // The heap of a run.
 
-ghost use Rattle.std.specs.Prelude.{◌≡◌, ◌+◌, ◌≤◌, ◌<◌, ◌⊎◌, length, slice_index, IfOk};
+ghost use Rattle.std.specs.Prelude.{◌≡◌, ℕ, ◌+◌, ◌≤◌, ◌<◌, ◌⊎◌, length, slice_index, IfOk};
 ghost use Rattle.lg_base.specs.Spaces.{number_at, written};
 
 use super::{byte_or_zero, number_in, number_past, reach, write_number};
@@ -51,6 +51,14 @@ impl Heap {
         ensures { result ≡ slice_index self.now at }
     {
         byte_or_zero(&self.held, at)
+    }
+
+    /// Returns the bytes that are held.
+    pub fn held(&self) -> &[u8]
+        ensures bytes { (k : ℕ) → k < length result.now → slice_index result.now k ≡ slice_index self.now k }
+        ensures len { length result.now ≤ 0x400000 }
+    {
+        &self.held
     }
 
     /// Returns the number in `width` bytes from a place on, the lowest byte first. `width` is 1, 2, 4 or 8.

@@ -39,12 +39,12 @@ pub each-returns-in_err-expand-clause-gives : goal.each-returns-in_err-expand-cl
 each-returns-in_err-expand-clause-gives t c =
     eachs_stop c.from_residual.result c.in_err-expand.field-0.0 _ _ c.from_residual.ensures.1
     (counts_blames c.in_err-expand.field-0.0 _ _ _ c.in_err-expand.ensures.gives
-    (λ fault e. sym c.raw.invariant.1 ∙ each_stop (expand_in c.args.table.now c.args.levels) c.args.line c.raw.work.hidden.items c.args.raw.now c.raw.done.items c.raw.i c.raw.work.sum c.index-raw-i.result c.new-full.result fault (omega arith) c.index-raw-i.is c.new-full.ensures e))
+    (λ fault e. sym c.raw.invariant.1 ∙ each_stop (expand_in c.args.table.now c.args.levels) c.args.line c.raw.work.hidden.items c.args.raw.now c.raw.done.items c.raw.i c.raw.work.sum c.index-raw-i.result c.take-full.result fault (omega arith) c.index-raw-i.is c.take-full.ensures e))
 
 pub each-raw-preserved : goal.each-raw-preserved
 each-raw-preserved t c = (
   c.in_ok-expand.ensures.hidden ∙ c.raw.invariant.0,
-  rw c.in_ok-expand.ensures.hidden (each_next (expand_in c.args.table.now c.args.levels) c.args.line c.raw.work.hidden.items c.args.raw.now c.raw.done.items c.add.new.done.items c.raw.i c.raw.work.sum c.expand.new.work.sum c.index-raw-i.result c.new-full.result c.expand.new.out (omega arith) c.index-raw-i.is c.new-full.ensures c.in_ok-expand.ensures.gives c.in_ok-add.ensures ∙ c.raw.invariant.1),
+  rw c.in_ok-expand.ensures.hidden (each_next (expand_in c.args.table.now c.args.levels) c.args.line c.raw.work.hidden.items c.args.raw.now c.raw.done.items c.add.new.done.items c.raw.i c.raw.work.sum c.expand.new.work.sum c.index-raw-i.result c.take-full.result c.expand.new.out (omega arith) c.index-raw-i.is c.take-full.ensures c.in_ok-expand.ensures.gives c.in_ok-add.ensures ∙ c.raw.invariant.1),
 )
 
 pub each-returns-clause-gives : goal.each-returns-clause-gives
@@ -64,9 +64,9 @@ with_arguments-returns-in_err-full-clause-gives t c =
 
 pub with_arguments-returns-clause-gives : goal.with_arguments-returns-clause-gives
 with_arguments-returns-clause-gives t c =
-    subst (λ (read : Outcome). CountsAs c.put.result (c.put.new.out, c.put.new.work.sum) read)
+    subst (λ (read : Outcome). CountsAs c.put-done.result (c.put-done.new.out, c.put-done.new.work.sum) read)
     (sym (replaced_put (expand_in c.args.table.now c.args.levels) c.args.line c.args.work.now.hidden.items c.count.new.work.hidden.items c.each.new.work.hidden.items c.args.place c.args.entry.now c.args.out.now c.args.work.now.sum c.count.new.work.sum c.each.new.work.sum c.args.raw.now c.in_ok-full.full.items c.deref.result.now c.in_ok-count.ensures.counts c.count.ensures.hidden c.in_ok-full.ensures.gives c.in_ok-full.ensures.hidden c.deref.ensures.value))
-    c.put.ensures.gives
+    c.put-done.ensures.gives
 
 pub called-returns-in-None-clause-gives : goal.called-returns-in-None-clause-gives
 called-returns-in-None-clause-gives t c =

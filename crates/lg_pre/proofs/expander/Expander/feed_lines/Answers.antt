@@ -8,4 +8,4 @@ returns-in_err-feed c = counts_from c.from_residual.result c.in_err-feed.field-0
     (counts_bound c.in_err-feed.field-0.0 _ _ _ (rw (between_whole c.args.self.now.lines c.len-end.result c.len-end.ensures) at c.in_err-feed.ensures))
 
 pub returns : goal.returns
-returns c = let whole = rw (between_whole c.args.self.now.lines c.len-end.result c.len-end.ensures) at c.in_ok-feed.ensures in rw (whole, c.new.ensures) refl
+returns c = let whole = rw (between_whole c.args.self.now.lines c.len-end.result c.len-end.ensures) at c.in_ok-feed.ensures in rw (whole, c.clear.ensures) refl

@@ -2,7 +2,7 @@ use Rattle.std.proofs.Common.{sym, subst, arith}
 use Rattle.lg_host.specs.Output.{PassesOn, output}
 use Rattle.lg_host.proofs.OutputLemmas.{PassesOn-trans, PassesOn-prefix, list-split}
 use Rattle.std.proofs.lemmas.List.{take_more}
-use Rattle.lg_host.proofs.buffer.Buffer.put.Goals as goal
+use Rattle.lg_host.proofs.buffer.Buffer.push_each.Goals as goal
 
 pub loop-byte-preserved : goal.loop-byte-preserved
 loop-byte-preserved g c = record {

@@ -1,6 +1,6 @@
 use Rattle.std.proofs.Common.{◌≡◌, take}
 use Rattle.lg_host.specs.Output.{PassesOn, output}
-use Rattle.lg_host.proofs.buffer.Buffer.put.Given as goal
+use Rattle.lg_host.proofs.buffer.Buffer.push_each.Given as goal
 
 abbrev pub invariant-loop-byte : goal.invariant-loop-byte
 invariant-loop-byte g l = record {

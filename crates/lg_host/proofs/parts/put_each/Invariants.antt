@@ -1,6 +1,6 @@
 use Rattle.std.proofs.Common.{◌-◌, ◌≡◌, ◌≤◌}
 use Rattle.lg_host.specs.Output.{PassesOn, output, bytes_from}
-use Rattle.lg_host.proofs.parts.put_text.Given as goal
+use Rattle.lg_host.proofs.parts.put_each.Given as goal
 
 abbrev pub invariant-loop-at : goal.invariant-loop-at
 invariant-loop-at g l = record {
