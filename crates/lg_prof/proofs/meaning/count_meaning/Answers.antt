@@ -31,8 +31,8 @@ ran-requires-clause-few c =
     let i = c.loop-turn.invariant in
     let l = c.args.unit.now.nodes in
     let runs = mean_from l c.args.shape.now c.args.machine.now.labels.addresses (state_of c.args.machine.now.machine) in
-    let few = counted_few (has_meant runs) (meant_line l runs) c.node_at-line.result.now.line c.loop-turn._turn in
-    let is = i.ran c.node_at-line.result.now.line in
+    let few = counted_few (has_meant runs) (meant_line l runs) c.node_at.result.now.line c.loop-turn._turn in
+    let is = i.ran c.node_at.result.now.line in
     omega (arith, few, is, c.loop-turn-test.true, c.requires.most)
 
 pub ran-requires-in-Ended-clause-few : goal.ran-requires-in-Ended-clause-few
@@ -40,14 +40,14 @@ ran-requires-in-Ended-clause-few c =
     let i = c.loop-turn.invariant in
     let l = c.args.unit.now.nodes in
     let runs = mean_from l c.args.shape.now c.args.machine.now.labels.addresses (state_of c.args.machine.now.machine) in
-    let few = counted_few (has_meant runs) (meant_line l runs) c.node_at-line.result.now.line c.loop-turn._turn in
-    let is = i.ran c.node_at-line.result.now.line in
+    let few = counted_few (has_meant runs) (meant_line l runs) c.node_at.result.now.line c.loop-turn._turn in
+    let is = i.ran c.node_at.result.now.line in
     omega (arith, few, is, c.loop-turn-test.true, c.requires.most)
 
 pub ran-requires-in-Ended-clause-line : goal.ran-requires-in-Ended-clause-line
 ran-requires-in-Ended-clause-line c =
     let kept = c.loop-turn.invariant.kept in
-    let below = c.requires.lines c.at.result c.node_at-line.result.now (sym c.node_at-line.ensures.node) in
+    let below = c.requires.lines c.at.result c.node_at.result.now (sym c.node_at.ensures.node) in
     omega (arith, kept, below)
 
 pub loop-turn-preserved : goal.loop-turn-preserved
@@ -58,10 +58,10 @@ loop-turn-preserved c =
     let start = state_of c.args.machine.now.machine in
     let A = c.args.machine.now.labels.addresses in
     let runs = mean_from l c.args.shape.now A start in
-    let at = c.node_at-line.result.now.line in
+    let at = c.node_at.result.now.line in
     let t = then_says c.steps_are_those_of_the_meaning.ensures l c.args.shape.now c.args.machine.now.labels c.loop-turn.machine.labels start n (line_at l) (state_of c.loop-turn.machine.machine) (state_of c.step.new.self.machine) c.loop-turn.machine.over c.step.result mean.Went None None None 0 0 i.running i.labels c.in-Went.is i.goes c.step.ensures.says in
     let made = went runs n (ap (λ (r : Run). r.status) i.goes.stands) (ap (λ (r : Run). r.status) t.stands) in
-    let line : meant_line l runs n ≡ at = ap (λ (r : Run). line_at l r.state) i.goes.stands ∙ ap (λ k. line_of (slice_get l.nodes k)) (sym c.at.ensures) ∙ ap line_of (sym c.node_at-line.ensures.node) in
+    let line : meant_line l runs n ≡ at = ap (λ (r : Run). line_at l r.state) i.goes.stands ∙ ap (λ k. line_of (slice_get l.nodes k)) (sym c.at.ensures) ∙ ap line_of (sym c.node_at.ensures.node) in
     let before = i.steps in
     let steps = steps_counted c.loop-turn.machine.over c.loop-turn.machine.steps c.step.new.self.steps c.step.result mean.Went i.running c.in-Went.is c.step.ensures.steps in
     record {
@@ -83,12 +83,12 @@ returns-in-Ended-clause-ran c =
     let start = state_of c.args.machine.now.machine in
     let A = c.args.machine.now.labels.addresses in
     let runs = mean_from l c.args.shape.now A start in
-    let at = c.node_at-line.result.now.line in
+    let at = c.node_at.result.now.line in
     let status = c.in-Ended.field-0 in
     let t = then_says c.steps_are_those_of_the_meaning.ensures l c.args.shape.now c.args.machine.now.labels c.loop-turn.machine.labels start n (line_at l) (state_of c.loop-turn.machine.machine) (state_of c.step.new.self.machine) c.loop-turn.machine.over c.step.result (mean.Ended status) None None None 0 0 i.running i.labels c.in-Ended.is i.goes c.step.ensures.says in
     let next = ap (λ (r : Run). r.status) t.1.2 in
     let made = ended runs n status (ap (λ (r : Run). r.status) i.goes.stands) next in
-    let line : meant_line l runs n ≡ at = ap (λ (r : Run). line_at l r.state) i.goes.stands ∙ ap (λ k. line_of (slice_get l.nodes k)) (sym c.at.ensures) ∙ ap line_of (sym c.node_at-line.ensures.node) in
+    let line : meant_line l runs n ≡ at = ap (λ (r : Run). line_at l r.state) i.goes.stands ∙ ap (λ k. line_of (slice_get l.nodes k)) (sym c.at.ensures) ∙ ap line_of (sym c.node_at.ensures.node) in
     let less : n + 1 ≤ c.args.most = omega (arith, c.loop-turn-test.true) in
     λ k. c.ran-in-Ended.ensures.ran k ∙ ap (λ x. if k == at then x + 1 else x) (i.ran k) ∙ sym (made_more (has_meant runs) (meant_line l runs) k n at made line)
     ∙ sym (unmade_until (has_meant runs) (meant_line l runs) k (n + 1) c.args.most less (over_later l c.args.shape.now A start (n + 1) (ended_is_over _ status next)))
