@@ -1,20 +1,20 @@
 // The choices of nodes, and how many registers are saved for them.
 
-ghost use Rattle.std.specs.Prelude.{◌≡◌, ◌≤◌, ◌+◌, Some, ◌<◌, length, count_by, IfOk};
+ghost use Rattle.std.specs.Prelude.{◌≡◌, ◌≤◌, Some, ◌<◌, length, count_by, IfOk};
 ghost use Rattle.lg_asm.specs.Assembled.{ArePushed};
-ghost use Rattle.lg_asm.specs.NodeChoices.{node_choices, choices_at, set_behind, is_spill, spills_of, spills_in};
+ghost use Rattle.lg_asm.specs.NodeChoices.{needs_on, node_choices, choices_at, set_behind, is_spill, spills_of, spills_in};
 ghost use Rattle.lg_base.specs.declared.target.Target.{Target};
 ghost use Rattle.lg_live.specs.RegSets.{has};
 ghost use Rattle.lg_node.specs.Checks.{IsAccepted};
 ghost use Rattle.lg_node.specs.Preparations.{pushed};
 
 use crate::node::{first, pushed_behind};
-use crate::target::{chosen, needs};
 use lg_base::{OutOfMemory, Target};
 use lg_live::{Live, RegSet};
 use lg_node::NodeList;
 use lg_op::Node;
-use lg_temp::{Choice, Choices};
+use lg_sel::choices_for;
+use lg_temp::{Choice, Choices, Needs};
 use std::alloc::Global;
 
 /// The registers that are live behind a node.
@@ -25,12 +25,23 @@ pub(crate) fn set_behind(live: &Live, index: u32) -> RegSet
     live.after(index)
 }
 
+// What the temporaries of a node's code need on a target.
+fn needs(target: Target, node: &Node) -> Needs
+    ensures { result ≡ needs_on target node.now.op }
+{
+    match target {
+        Target::Aarch64 => lg_sela::needs(node),
+        Target::Riscv64 => lg_selr::needs(node),
+        Target::X86_64 => lg_selx::needs(node),
+    }
+}
+
 /// The choices of a node behind which these registers are live and before which so many arguments are pushed.
 pub(crate) fn node_choices(target: Target, node: &Node, live_after: RegSet, passed: u32) -> Choices
     requires { passed ≤ 16 }
     ensures { node_choices target (has live_after) passed node.now ≡ Some result }
 {
-    chosen(
+    choices_for(
         target,
         &needs(target, node),
         node,

@@ -1,5 +1,5 @@
 -- What is known of a buffer to which the items of a node were appended, or to which nothing was, since they had no room.
-use Rattle.std.proofs.Common.{◌≡◌, ℕ, ◌+◌, ◌%◌, ◌<◌, ◌≤◌, Bool, true, false, List, [], ◌∷◌, ◌++◌, length, drop, refl, sym, ap, subst, ◌∙◌, arith, rules, length-append}
+use Rattle.std.proofs.Common.{◌≡◌, ℕ, ◌+◌, ◌%◌, ◌≤◌, Bool, true, false, List, [], ◌∷◌, ◌++◌, length, drop, refl, sym, ap, subst, ◌∙◌, arith, rules}
 use Rattle.std.specs.Prelude.{IsTrue}
 use Rattle.std.specs.List.{All, AllByRecursion}
 use Rattle.std.proofs.lemmas.List.{drop_at}
@@ -16,24 +16,6 @@ is-true = search rules
 -- what stands behind the front of a list that was lengthened
 pub lengthened : {A : Type 0} (xs new more : List A) → new ≡ xs ++ more → new ≡ xs ++ drop (length xs) new
 lengthened xs new more e = e ∙ ap (λ ys. xs ++ ys) (sym (ap (drop (length xs)) e ∙ drop_at xs more (length xs) refl))
-
--- whether there was room, the old buffer and the new one, and what was appended
-module _ (b : Bool) (old new : Buffer) (bytes : List ℕ) (refused : b ≡ false → new ≡ old) (went : IsTrue b → new.bytes ≡ old.bytes ++ bytes) where
-  pub appended-size : IsTrue b → length new.bytes ≡ length old.bytes + length bytes
-  appended-size is = ap length (went is) ∙ length-append old.bytes bytes
-
-  pub appended-by : (P : ℕ → Type 0) → P (length old.bytes) → P (length old.bytes + length bytes) → P (length new.bytes)
-  appended-by P none some = by b refl
-    where
-      by : (x : Bool) → b ≡ x → P (length new.bytes)
-      by true e = subst P (sym (appended-size (subst IsTrue (sym e) is-true))) some
-      by false e = subst P (sym (ap (λ (x : Buffer). length x.bytes) (refused e))) none
-
-  pub short-appended : length bytes ≤ 256 → length new.bytes ≤ length old.bytes + 256
-  short-appended few = appended-by (λ k. k ≤ length old.bytes + 256) (omega arith) (omega (arith, few))
-
-  pub begins-appended : 0 < length bytes → IsTrue b → length old.bytes < length new.bytes
-  begins-appended some is = let size = appended-size is in omega (arith, size, some)
 
 pub one-fixed : (b : Bool) (old new : Buffer) (fixes : ℕ) → (b ≡ false → new ≡ old) → (IsTrue b → new.room + fixes ≡ old.room) → fixes ≤ 1 → old.room ≤ new.room + 1
 one-fixed true old new fixes refused went few = let e = went is-true in omega (arith, e, few)

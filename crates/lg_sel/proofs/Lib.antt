@@ -1,4 +1,5 @@
 pub mod AppendedLemmas
+pub mod BackendLemmas
 pub mod CountLemmas
 pub mod EmissionLemmas
 pub mod EmittedLemmas

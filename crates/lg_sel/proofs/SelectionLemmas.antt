@@ -1,6 +1,6 @@
 -- What `select` owes for the items of a node that it appends, where those of each family are as they have to be.
-use Rattle.std.proofs.Common.{◌≡◌, ℕ, ◌+◌, ◌-◌, ◌<◌, ◌≤◌, Bool, true, false, List, ◌++◌, length, None, Some, ap, ◌∙◌, subst, arith}
-use Rattle.std.specs.Prelude.{IsTrue, slice_get, slice_index}
+use Rattle.std.proofs.Common.{◌≡◌, ℕ, ◌+◌, ◌-◌, ◌<◌, ◌≤◌, Bool, true, List, length, None, Some, ap, ◌∙◌, subst}
+use Rattle.std.specs.Prelude.{slice_get, slice_index}
 use Rattle.lg_base.specs.Layout.{code_base, most_code}
 use Rattle.lg_base.specs.declared.target.Target.{Target}
 use Rattle.lg_buf.specs.Buffers.{Buffer, place_of}
@@ -16,10 +16,8 @@ use Rattle.lg_op.specs.declared.operand.Label.{Label}
 use Rattle.lg_op.specs.declared.operand.Operand.{Operand}
 use Rattle.lg_op.specs.declared.operand.Operand.TheVariants as operand
 use Rattle.lg_op.specs.declared.operand.Reg.{Reg}
-use Rattle.lg_sel.proofs.AppendedLemmas.{begins-appended}
-use Rattle.lg_sel.proofs.EmissionLemmas.{Emits, stores-counted}
+use Rattle.lg_sel.proofs.EmissionLemmas.{Emits}
 use Rattle.lg_sel.proofs.FamilyLemmas.{node_of}
-use Rattle.lg_sel.proofs.FinishedLemmas.{items-are-sparing, items-are-whole}
 use Rattle.lg_sel.proofs.LabelLemmas.{names}
 use Rattle.lg_sel.proofs.ReachLemmas.{same-label}
 use Rattle.lg_sel.proofs.StoreLemmas.{allowed}
@@ -27,13 +25,11 @@ use Rattle.lg_sel.specs.Asked.{IsAsked}
 use Rattle.lg_sel.specs.Families.{Families, node_items}
 use Rattle.lg_sel.specs.Finished.{AreAppended}
 use Rattle.lg_sel.specs.Promises.{IsShortWhenFinished, IsAheadWhenFinished}
-use Rattle.lg_sel.specs.Selected.{IsFrame, IsFinished, AreWhole, part_of}
+use Rattle.lg_sel.specs.Selected.{IsFrame, IsFinished, part_of}
 use Rattle.lg_sel.specs.Shorts.{IsShort, IsAhead}
-use Rattle.lg_sel.specs.Stores.{StoresAtMost, own_stores}
 use Rattle.lg_sel.specs.Holes.{Holes, Each, AreHoles, blanks, fixes_of}
 use Rattle.lg_sel.specs.Reaches.{reach_ahead, Leads, IsChecked, IsLeast, IsLeastAhead}
 use Rattle.lg_sel.specs.declared.reach.Reach.{Reach}
-use Rattle.lg_temp.specs.Chosen.{spills}
 use Rattle.lg_temp.specs.declared.choice.Choice.{Choice}
 use Rattle.lg_temp.specs.declared.choice.Need.{Need}
 
@@ -84,19 +80,6 @@ module _ {L I : Type 0} {target : Target} {homes saved : ℕ} {needs : Op → Li
 
     own : AreAppended H old new mine
     own = subst (AreAppended H old new) e appended
-
-    -- their bytes are whole instructions
-    pub selected-whole : (code : List ℕ) (c : Code) (i : ℕ) → IsFinished old new code c i
-        → AreWhole spelling fits (part_of code (length old.bytes) (length new.bytes - length old.bytes))
-    selected-whole code c i f = items-are-whole H spelling fits is_item ok.holes old new code c i mine own fit f
-
-    -- which store seldom
-    pub selected-spares : (code : List ℕ) (c : Code) (i : ℕ) → IsFinished old new code c i
-        → StoresAtMost spelling fits is_store (spills choices + own_stores target homes saved node.op) (part_of code (length old.bytes) (length new.bytes - length old.bytes))
-    selected-spares code c i f =
-        let emits = ok.emits reach frame choices staged (length old.bytes) node in
-        items-are-sparing H spelling fits is_item ok.holes is_store old new code c i mine (allowed target homes saved choices node.op) own fit
-        (stores-counted H is_store (passes reach (names node.operands)) 1 (allowed target homes saved choices node.op) mine emits (slice_index c.addresses) (c.place i)) f
 
     -- and where those of nodes that lead to labels have the shortest form, they have
     module _ (short : (code : List ℕ) (c : Code) (i goal : ℕ) → IsFinished old new code c i → (r : Reach) (o : Op) (xs : List Operand) (l : Label)
@@ -166,12 +149,3 @@ module _ {L I : Type 0} {target : Target} {homes saved : ℕ} {needs : Op → Li
             checked = subst (λ xs. Each (IsChecked reach old) (fixes_of H (length old.bytes) xs)) e checked;
             least = least l first free low;
           }
-
-  -- a `prolog` has bytes
-  pub appended-begins : (reach : Reach) (b : Bool) (n : Node) (frame : ℕ) (choices : List Choice) (staged : List Bool) (old new : Buffer) (items : List L)
-      → items ≡ node_items (F reach) n frame choices staged (length old.bytes) → (b ≡ false → new ≡ old) → (IsTrue b → new.bytes ≡ old.bytes ++ blanks H items)
-      → IsTrue b → is_prolog n.op ≡ true → length old.bytes < length new.bytes
-  appended-begins reach b n frame choices staged old new items e refused went is prolog =
-      let some = ok.begins reach n.op n.operands n.line frame choices staged (length old.bytes) prolog in
-      let same = ap (λ (xs : List L). length (blanks H xs)) e in
-      begins-appended b old new (blanks H items) refused went (omega (arith, some, same)) is

@@ -1,5 +1,7 @@
 pub mod A64Touched
 pub mod Asked
+pub mod Backends
+pub mod Chosen
 pub mod Control
 pub mod Emittable
 pub mod Families

@@ -9,7 +9,7 @@ use Rattle.lg_buf.specs.Buffers.{Buffer, AreDone, place_of}
 use Rattle.lg_buf.specs.Fixing.{IsWithin, Fits}
 use Rattle.lg_carry.specs.Blocks.{spellings}
 use Rattle.lg_carry.specs.FinalNodes.{Code, saved_at}
-use Rattle.lg_carry.specs.Homes.{IsHomesOf}
+use Rattle.lg_sel.specs.Control.Prologs.{IsHomesOf}
 use Rattle.lg_carry.specs.TextNodes.{IsInText, IsFrameOf, HasPlaces, NamesCode}
 use Rattle.lg_cpu.specs.Laws.{AreBytes}
 use Rattle.lg_node.specs.Labels.{is_label}
@@ -120,7 +120,7 @@ pub record IsFinished (old new : Buffer) (code : List ℕ) (c : Code) (i : ℕ) 
   pub next : c.place (i + 1) ≡ code_base + length new.bytes
   pub addresses : HaveAddresses labels (slice_index c.addresses)
 
--- the node is node i of an accepted text: its function has this frame, and where it is a `prolog` reads so many homes; its labels are code labels, and
+-- the node is node i of an accepted text: its function has this frame, and where it is a `prolog` reads at most so many homes; its labels are code labels, and
 -- these arguments are staged at it, among them all that are pushed; at a `pushargr` or `pushargi` none but these. The nodes stand in the code part, those
 -- to which the code may jump at multiples of the unit, and all addresses of labels are below 2 ^ 30, as all of the memory is
 pub record IsNodeOf (unit : ℕ) (node : Node) (frame homes saved : ℕ) (staged : List Bool) (c : Code) (i : ℕ) : Type 0 where

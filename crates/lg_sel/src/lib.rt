@@ -2,7 +2,9 @@
 //! finished buffer keeps it, and the laws of nodes that lead elsewhere (control).
 #![tactic(auto)]
 
+mod backend;
 mod bytes;
+mod chosen;
 pub mod control;
 mod emission;
 mod item;
@@ -11,11 +13,17 @@ mod items;
 pub mod laws;
 pub mod operands;
 mod reach;
+mod selection;
 mod shortest;
+mod site;
 
+pub use backend::{Backend, ItemList};
 pub use bytes::Bytes;
+pub use chosen::{append_node, choices_for};
 pub use emission::append;
 pub use item::Item;
 pub use items::Items;
 pub use reach::{NEAR_SIZE, Reach, SMALL_SIZE, lead};
-pub use shortest::{Emitter, ItemList, shortest_items};
+pub use selection::select;
+pub use shortest::shortest_items;
+pub use site::{Frame, Site};

@@ -1,6 +1,6 @@
 -- What `select` appends carries the node once the buffer is finished, and what is known of the buffer.
-use Rattle.std.proofs.Common.{◌≡◌, ℕ, ◌+◌, ◌*◌, ◌%◌, ◌<◌, ◌≤◌, Bool, true, false, List, [], ◌∷◌, ◌++◌, length, drop, sym, ap, ◌∙◌, subst, arith, length-append}
-use Rattle.std.specs.Prelude.{IsTrue, ◌-◌, if◌then◌else◌}
+use Rattle.std.proofs.Common.{◌≡◌, ℕ, ◌+◌, ◌%◌, ◌<◌, ◌≤◌, Bool, true, false, List, [], ◌++◌, length, drop, sym, ap, subst, arith}
+use Rattle.std.specs.Prelude.{◌-◌, if◌then◌else◌}
 use Rattle.lg_carry.specs.Carries.{moves_at}
 use Rattle.lg_sela.specs.Control.Prologs.{fall_code, framed_code, is_near}
 use Rattle.std.specs.List.{All, AllByRecursion}
@@ -9,22 +9,19 @@ use Rattle.lg_buf.specs.Buffers.{Buffer, place_of}
 use Rattle.lg_buf.specs.declared.fixes.Fix.{Fix}
 use Rattle.lg_buf.specs.declared.fixes.FixKind.TheVariants.{A64Cond19}
 use Rattle.lg_node.specs.Functions.{is_prolog}
-use Rattle.lg_op.specs.Forms.{is_alignment, forms_of, admit}
-use Rattle.lg_op.specs.Nodes.{InForm}
 use Rattle.lg_op.specs.declared.node.Node.{Node}
 use Rattle.lg_op.specs.declared.op.Op.{Op}
 use Rattle.lg_op.specs.declared.op.Op.TheVariants as op
 use Rattle.lg_op.specs.declared.op.PlainOp.TheVariants as plain
 use Rattle.lg_op.specs.declared.operand.Operand.{Operand}
-use Rattle.lg_op.specs.declared.operand.Operand.TheVariants as operand
 use Rattle.lg_op.specs.declared.operand.Reg.{Reg}
 use Rattle.lg_a64.specs.Spelling.{IsInstr, spelling}
-use Rattle.lg_sel.proofs.AppendedLemmas.{appended-by, fixes-of-lead}
+use Rattle.lg_sel.proofs.AppendedLemmas.{fixes-of-lead}
 use Rattle.lg_sel.proofs.FamilyLemmas.{node_of}
 use Rattle.lg_sel.proofs.LabelLemmas.{names}
 use Rattle.lg_sel.proofs.SelectionLemmas.{IsSelection}
 use Rattle.lg_sel.specs.Promises.{IsCarriedWhenFinished}
-use Rattle.lg_sel.specs.Selected.{IsFrame, IsAligned, IsFixOf}
+use Rattle.lg_sel.specs.Selected.{IsFrame, IsFixOf}
 use Rattle.lg_sel.specs.Stores.{a64_stores}
 use Rattle.lg_sel.specs.Holes.{Each}
 use Rattle.lg_sel.specs.declared.reach.Reach.{Reach}
@@ -33,16 +30,13 @@ use Rattle.lg_sela.proofs.Emissions.{Names}
 use Rattle.lg_sela.proofs.FinishedLemmas.{AreAppended, are-of-node}
 use Rattle.lg_sela.proofs.NodeFits.{node-emits, items-fit, items-within}
 use Rattle.lg_sela.proofs.NodeLemmas.{items-carry}
-use Rattle.lg_sel.proofs.PlaceLemmas.{and-first}
 use Rattle.lg_sel.proofs.ReachLemmas.{led-fits, is-near}
 use Rattle.lg_sel.specs.Reaches.{Leads, IsChecked}
 use Rattle.lg_sela.specs.Items.{a64_families, node_items}
 use Rattle.lg_sela.specs.Selected.{needs, IsAsked}
-use Rattle.lg_sela.proofs.OfControl.AlignLemmas.{alignments-align}
-use Rattle.lg_sela.specs.Control.Alignments.{align_code}
-use Rattle.lg_sela_values.proofs.ItemLemmas.{blank_bytes, words-ones}
+use Rattle.lg_sela_values.proofs.ItemLemmas.{blank_bytes}
 use Rattle.lg_sela_values.proofs.PatchLemmas.{are-holes}
-use Rattle.lg_sela_values.specs.Items.{a64_holes, IsItem, fix_of, words_in, bytes_in, blanks, fixes_of, ones, StayWithin}
+use Rattle.lg_sela_values.specs.Items.{a64_holes, IsItem, fix_of, words_in, blanks, fixes_of, ones, StayWithin}
 use Rattle.lg_sela_values.specs.declared.items.Item.{Item}
 use Rattle.lg_sela_values.specs.declared.items.Item.TheVariants.{One, Branch, CondBranch, Address}
 use Rattle.lg_temp.specs.declared.choice.Choice.{Choice}
@@ -63,11 +57,6 @@ selected-carries homes saved reach node frame live staged choices old new items 
 -- 64 instructions have at most 256 bytes
 pub at-most-256 : (items : List Item) → words_in items ≤ 64 → length (blanks items) ≤ 256
 at-most-256 items few = let size = blank_bytes items in omega (arith, few, size)
-
--- an instruction has four bytes
-pub appended-whole : (b : Bool) (old new : Buffer) (items : List Item) → (b ≡ false → new ≡ old) → (IsTrue b → new.bytes ≡ old.bytes ++ blanks items) → length old.bytes % 4 ≡ 0 → length new.bytes % 4 ≡ 0
-appended-whole b old new items refused went even =
-    let size = blank_bytes items in appended-by b old new (blanks items) refused went (λ k. k % 4 ≡ 0) even (omega (arith, size, even))
 
 -- a `prolog` has some
 prolog-some : (homes saved : ℕ) (reach : Reach) (o : Op) (xs : List Operand) (line frame : ℕ) (choices : List Choice) (staged : List Bool) (place : ℕ) → is_prolog o ≡ true → 0 < words_in (node_items homes saved reach (node_of o xs line) frame choices staged place)
@@ -124,17 +113,3 @@ module _ (n : Node) (old : Buffer) where
       let emits = node-emits homes saved reach frame choices staged (length old.bytes) n in
       fixes-of-lead a64_holes 4 n old (Names reach (names n.operands)) (IsChecked reach old) whole (leads reach) new items fixes even
       (subst (Each (Names reach (names n.operands))) (sym e) emits.named) checked
-
--- ---- alignments
-pub aligned-behind : (homes saved : ℕ) (reach : Reach) (b : Bool) (node : Node) (frame : ℕ) (choices : List Choice) (staged : List Bool) (old new : Buffer) (items : List Item) → InForm node → items ≡ node_items homes saved reach node frame choices staged (length old.bytes)
-    → (IsTrue b → new.bytes ≡ old.bytes ++ blanks items) → length old.bytes % 4 ≡ 0 → IsTrue b → IsAligned node (length new.bytes)
-aligned-behind homes saved reach b node frame choices staged old new items formed e bytes even went n is xs =
-    let place : ℕ = length old.bytes in
-    let made : Op → List Operand → List Item = λ o ys. node_items homes saved reach record { op = o; operands = ys; line = node.line } frame choices staged place in
-    let same : items ≡ ones (align_code place n) = e ∙ (λ j. made (is j) (xs j)) in
-    let admitted : admit (forms_of (op.Plain plain.Align)) (operand.Number n ∷ []) ≡ true = subst (λ (p : Op × List Operand). admit (forms_of p.0) p.1 ≡ true) (λ j. (is j, xs j)) formed.forms in
-    let long = ap length (bytes went) ∙ length-append old.bytes (blanks items) in
-    let size = blank_bytes items ∙ ap bytes_in same in
-    let words = words-ones (align_code place n) in
-    let total : length new.bytes ≡ place + 4 * length (align_code place n) = omega (arith, long, size, words) in
-    ap (λ (k : ℕ). k % n) total ∙ alignments-align place n (and-first (is_alignment n) true admitted) even

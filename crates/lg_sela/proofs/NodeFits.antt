@@ -1,19 +1,17 @@
 -- The items of each node can be appended to a buffer, and write no register that is outside of the conventions.
-use Rattle.std.proofs.Common.{◌≡◌, ℕ, ◌≤◌, Bool, List, [], length, arith, true, sym, subst, ◌+◌}
+use Rattle.std.proofs.Common.{ℕ, ◌≤◌, Bool, List, [], length, arith, ◌+◌}
 use Rattle.lg_carry.specs.Outside.{moves_stack}
 use Rattle.lg_base.specs.declared.target.Target.TheVariants.{Aarch64}
 use Rattle.lg_op.specs.declared.node.Node.{Node}
-use Rattle.lg_op.specs.declared.operand.Operand.{Operand}
 use Rattle.lg_op.specs.declared.operand.Reg.{Reg}
 use Rattle.lg_meaning.specs.Steps.{operand_at}
-use Rattle.lg_op.specs.Nodes.{InForm}
 use Rattle.lg_sel.proofs.LabelLemmas.{names, all-self}
 use Rattle.lg_sel.proofs.NodeEmissionLemmas as emission
 use Rattle.lg_sel.proofs.NodeFitLemmas as fit
 use Rattle.lg_sel.proofs.NodeFitLemmas.{passed}
 use Rattle.lg_sel.proofs.StoreLemmas.{allowed}
-use Rattle.lg_carry.specs.Nodes.Operands.{HaveWords, NameBelow}
-use Rattle.lg_sel.specs.Selected.{AreFirst, IsFrame, TakesLabelsWell, is_pusharg}
+use Rattle.lg_carry.specs.Nodes.Operands.{NameBelow}
+use Rattle.lg_sel.specs.Selected.{IsFrame}
 use Rattle.lg_sel.specs.Stores.{a64_stores}
 use Rattle.lg_sel.specs.declared.reach.Reach.{Reach}
 use Rattle.lg_sela.proofs.ControlEmissions.{controls-emit}
@@ -108,14 +106,3 @@ families-stay homes saved reach = record {
 pub items-within : (homes saved : ℕ) (reach : Reach) (frame : ℕ) (live : Reg → Bool) (staged : List Bool) (choices : List Choice) (labels place : ℕ) (n : Node) → IsAsked n live staged choices labels → StayWithin (moves_stack Aarch64 n.op) (node_items homes saved reach n frame choices staged place)
 items-within homes saved reach frame live staged choices labels place n k =
     fit.items-stay Aarch64 needs (a64_families homes saved reach) StaysWithin (families-stay homes saved reach) frame live k.chosen.set staged choices place n (fit.are-made Aarch64 needs (a64_families homes saved reach) n live staged choices labels k)
-
--- ---- what is asked of a node
-pub asked-of : (n : Node) (live : Reg → Bool) (staged : List Bool) (choices : List Choice) (labels : ℕ) (xs : List Operand) → InForm n → AreChosen n live staged choices
-    → (is_pusharg n.op ≡ true → AreFirst staged) → NameBelow labels n.operands → TakesLabelsWell n → xs ≡ n.operands → HaveWords xs → IsAsked n live staged choices labels
-asked-of n live staged choices labels xs formed chosen first named takes e words =
-    record { formed = formed; chosen = chosen; first = first; named = named; takes = takes; words = subst HaveWords e words }
-
--- items that are those of the node can be appended
-pub made-fits : (homes saved : ℕ) (reach : Reach) (frame : ℕ) (live : Reg → Bool) (staged : List Bool) (choices : List Choice) (labels place : ℕ) (n : Node) (items : List Item) → IsFrame frame
-    → IsAsked n live staged choices labels → items ≡ node_items homes saved reach n frame choices staged place → AreEmittable labels items
-made-fits homes saved reach frame live staged choices labels place n items sized k e = subst (AreEmittable labels) (sym e) (items-fit homes saved reach frame live staged choices labels place n sized k)

@@ -5,8 +5,9 @@ use Rattle.lg_op.specs.Nodes.{InForm}
 use Rattle.lg_op.specs.declared.node.Node.{Node}
 use Rattle.lg_sel.specs.Families.{Families}
 use Rattle.lg_sel.specs.Families as families
-use Rattle.lg_sel.specs.Selected.{IsFrame, AreFirst, is_pusharg}
+use Rattle.lg_sel.specs.Selected.{AreFirst, is_pusharg}
 use Rattle.lg_sel.specs.declared.reach.Reach.{Reach}
+use Rattle.lg_sel.specs.declared.site.Site.{Site}
 use Rattle.lg_sela.specs.Control.ControlItems.{control_items}
 use Rattle.lg_sela_values.specs.declared.items.Item.{Item}
 use Rattle.lg_sela_values.specs.Items.{ones}
@@ -34,10 +35,13 @@ a64_families homes saved reach = record {
 abbrev pub node_items : ℕ → ℕ → Reach → Node → ℕ → List Choice → List Bool → ℕ → List Item
 node_items homes saved reach n frame choices staged place = families.node_items (a64_families homes saved reach) n frame choices staged place
 
--- what is asked of a node, the size of the frame, the choices, and the arguments that are staged
-pub record IsGiven (n : Node) (frame : ℕ) (choices : List Choice) (staged : List Bool) : Type 0 where
+-- those of a node at a site
+abbrev pub site_items : Reach → Node → Site → ℕ → List Item
+site_items reach n site place = node_items site.frame.homes site.frame.saved reach n site.frame.size site.choices site.staged.arguments place
+
+-- what is asked of a node and its site
+pub record IsGiven (n : Node) (site : Site) : Type 0 where
   pub formed : InForm n
-  pub sized : IsFrame frame
-  pub few : length choices ≤ 1
-  pub slots : HaveSlots choices
-  pub first : is_pusharg n.op ≡ true → AreFirst staged
+  pub few : length site.choices ≤ 1
+  pub slots : HaveSlots site.choices
+  pub first : is_pusharg n.op ≡ true → AreFirst site.staged.arguments

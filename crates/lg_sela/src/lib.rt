@@ -8,5 +8,6 @@ pub mod memory;
 mod selection;
 mod temporaries;
 
+pub use items::Aarch64;
 pub use selection::select;
 pub use temporaries::needs;

@@ -1,6 +1,5 @@
 -- What `select` appends carries the node once the buffer is finished, and what is known of the buffer.
-use Rattle.std.proofs.Common.{◌≡◌, ℕ, ◌+◌, ◌%◌, ◌<◌, ◌≤◌, Bool, true, List, [], ◌∷◌, ◌++◌, length, drop, sym, ap, ◌∙◌, subst, arith, length-append}
-use Rattle.std.specs.Prelude.{IsTrue}
+use Rattle.std.proofs.Common.{◌≡◌, ℕ, ◌+◌, ◌%◌, ◌<◌, ◌≤◌, Bool, true, List, ◌++◌, length, drop, sym, ap, subst, arith}
 use Rattle.std.specs.List.{All, AllByRecursion}
 use Rattle.lg_carry.specs.Carries.{moves_at}
 use Rattle.lg_base.specs.declared.target.Target.TheVariants.{X86_64}
@@ -8,14 +7,11 @@ use Rattle.lg_buf.specs.Buffers.{Buffer, place_of}
 use Rattle.lg_buf.specs.declared.fixes.Fix.{Fix}
 use Rattle.lg_buf.specs.declared.fixes.FixKind.TheVariants.{X86Rel8}
 use Rattle.lg_node.specs.Functions.{is_prolog}
-use Rattle.lg_op.specs.Forms.{is_alignment, forms_of, admit}
-use Rattle.lg_op.specs.Nodes.{InForm}
 use Rattle.lg_op.specs.declared.node.Node.{Node}
 use Rattle.lg_op.specs.declared.op.Op.{Op}
 use Rattle.lg_op.specs.declared.op.Op.TheVariants as op
 use Rattle.lg_op.specs.declared.op.PlainOp.TheVariants as plain
 use Rattle.lg_op.specs.declared.operand.Operand.{Operand}
-use Rattle.lg_op.specs.declared.operand.Operand.TheVariants as operand
 use Rattle.lg_op.specs.declared.operand.Reg.{Reg}
 use Rattle.lg_x86.specs.Spelling.{IsInstr, spelling}
 use Rattle.lg_sel.proofs.AppendedLemmas.{fixes-of-lead}
@@ -23,8 +19,7 @@ use Rattle.lg_sel.proofs.FamilyLemmas.{node_of}
 use Rattle.lg_sel.proofs.LabelLemmas.{names}
 use Rattle.lg_sel.proofs.SelectionLemmas.{IsSelection}
 use Rattle.lg_sel.specs.Promises.{IsCarriedWhenFinished}
-use Rattle.lg_carry.specs.Blocks.{spellings}
-use Rattle.lg_sel.specs.Selected.{IsFrame, IsAligned, IsFixOf}
+use Rattle.lg_sel.specs.Selected.{IsFrame, IsFixOf}
 use Rattle.lg_sel.specs.Stores.{x86_stores}
 use Rattle.lg_sel.specs.Holes.{Each}
 use Rattle.lg_sel.specs.declared.reach.Reach.{Reach}
@@ -33,17 +28,13 @@ use Rattle.lg_selx.proofs.Emissions.{Names}
 use Rattle.lg_selx.proofs.FinishedLemmas.{AreAppended, are-of-node}
 use Rattle.lg_selx.proofs.NodeFits.{node-emits, items-fit, items-within}
 use Rattle.lg_selx.proofs.NodeLemmas.{items-carry}
-use Rattle.lg_sel.proofs.PlaceLemmas.{and-first}
 use Rattle.lg_sel.proofs.ReachLemmas.{led-fits}
 use Rattle.lg_sel.proofs.OfControl.ControlLemmas.{differ}
 use Rattle.lg_sel.specs.Reaches.{Leads, IsChecked}
 use Rattle.lg_selx.specs.Items.{x86_families, node_items}
 use Rattle.lg_selx.specs.Selected.{needs, IsAsked}
-use Rattle.lg_selx.proofs.OfControl.AlignLemmas.{alignments-align}
-use Rattle.lg_selx.specs.Control.Alignments.{align_code}
-use Rattle.lg_selx.proofs.OfControl.ControlLemmas.{blanks-ones}
 use Rattle.lg_selx_values.proofs.PatchLemmas.{are-holes}
-use Rattle.lg_selx_values.specs.Items.{x86_holes, IsItem, fix_of, words_in, blanks, fixes_of, ones, StayWithin}
+use Rattle.lg_selx_values.specs.Items.{x86_holes, IsItem, fix_of, words_in, blanks, fixes_of, StayWithin}
 use Rattle.lg_selx_values.specs.declared.items.Item.{Item}
 use Rattle.lg_selx_values.specs.declared.items.Item.TheVariants.{One, Jump, Address}
 use Rattle.lg_selx_values.specs.declared.items.JumpKind.TheVariants.{Near, NearIf, Short, ShortIf}
@@ -111,16 +102,3 @@ module _ (n : Node) (old : Buffer) where
       let emits = node-emits homes saved reach frame choices staged (length old.bytes) n in
       fixes-of-lead x86_holes 1 n old (Names reach (names n.operands)) (IsChecked reach old) (λ x place h. one-whole (place + length (x86_holes.blank x))) (leads reach) new items fixes
       (one-whole (length old.bytes)) (subst (Each (Names reach (names n.operands))) (sym e) emits.named) checked
-
--- ---- alignments
-pub aligned-behind : (homes saved : ℕ) (reach : Reach) (b : Bool) (node : Node) (frame : ℕ) (choices : List Choice) (staged : List Bool) (old new : Buffer) (items : List Item) → InForm node → items ≡ node_items homes saved reach node frame choices staged (length old.bytes)
-    → (IsTrue b → new.bytes ≡ old.bytes ++ blanks items) → IsTrue b → IsAligned node (length new.bytes)
-aligned-behind homes saved reach b node frame choices staged old new items formed e bytes went n is xs =
-    let place : ℕ = length old.bytes in
-    let made : Op → List Operand → List Item = λ o ys. node_items homes saved reach record { op = o; operands = ys; line = node.line } frame choices staged place in
-    let same : items ≡ ones (align_code place n) = e ∙ (λ j. made (is j) (xs j)) in
-    let admitted : admit (forms_of (op.Plain plain.Align)) (operand.Number n ∷ []) ≡ true = subst (λ (p : Op × List Operand). admit (forms_of p.0) p.1 ≡ true) (λ j. (is j, xs j)) formed.forms in
-    let total : length new.bytes ≡ place + length (blanks (ones (align_code place n))) =
-    ap length (bytes went) ∙ (length-append old.bytes (blanks items) ∙ ap (λ (ys : List Item). place + length (blanks ys)) same) in
-    let spelled : length (blanks (ones (align_code place n))) ≡ length (spellings spelling (align_code place n)) = ap length (blanks-ones (align_code place n)) in
-    ap (λ (k : ℕ). k % n) (total ∙ ap (λ (k : ℕ). place + k) spelled) ∙ alignments-align place n (and-first (is_alignment n) true admitted)

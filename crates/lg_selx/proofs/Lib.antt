@@ -2,6 +2,7 @@ pub mod CarriedLemmas
 pub mod ControlEmissions
 pub mod Emissions
 pub mod FinishedLemmas
+pub mod BackendLemmas
 pub mod MemoryEmissions
 pub mod NeedLemmas
 pub mod NodeFits

@@ -19,11 +19,11 @@ use Rattle.lg_op.specs.declared.node.Node.{Node}
 use Rattle.lg_node.specs.Functions.{is_prolog_at}
 use Rattle.lg_meaning.proofs.FunctionFacts.{function_at_home}
 use Rattle.lg_carry.specs.FinalNodes.{Code, saved_at}
-use Rattle.lg_carry.specs.Homes.{homes_at, IsHomesOf}
 use Rattle.lg_carry.specs.NodeCode.{CarriesNode}
 use Rattle.lg_carry.proofs.OfNodes.CallLemmas.{calls-carry, finishes-carry}
 use Rattle.lg_carry.proofs.OfNodes.HostLemmas.{host-calls-carry, host-finishes-carry}
 use Rattle.lg_sel.proofs.OfControl.PrologLemmas.{prologs-carry}
+use Rattle.lg_sel.specs.Control.Prologs.{IsHomesOf}
 use Rattle.lg_sel.proofs.OfControl.ReturnLemmas.{returns-carry}
 use Rattle.lg_sel.proofs.OfControl.RegisterLeapLemmas.{register-jumps-carry, register-calls-carry, register-finishes-carry}
 use Rattle.lg_sel.proofs.OfControl.SilentLemmas.{silent-nodes-carry}
@@ -196,9 +196,8 @@ module _ {Q I : Type 0} (R : Rows Q I) (scratch : ℕ → Bool) (fits : I → Ty
   prolog t k =
       let entry = (t.well.entries i (ap is_prolog_at t.here)).0 in
       let f = function_at_home c.nodes c.shape t.functions t.shape.functions i i entry in
-      prologs-carry R fits saved C.prolog T.prologs c i line f.0 S t f.1.here is-saved
-      (subst (λ z. IsNodeCode R fits c i (C.prolog z (homes_at c i))) (is-frame f.0 f.1.here)
-      (subst (λ z. IsNodeCode R fits c i (C.prolog frame z)) (is-homes (ap is_prolog_at t.here)) k))
+      prologs-carry R fits saved C.prolog T.prologs c i line homes f.0 S t f.1.here is-saved (is-homes (ap is_prolog_at t.here))
+      (subst (λ z. IsNodeCode R fits c i (C.prolog z homes)) (is-frame f.0 f.1.here) k)
 
   -- a node without operands
   none : (xs : List Operand) → admit [] xs ≡ true → xs ≡ []

@@ -60,9 +60,9 @@ same-number : (x y : ℕ) → x ≡ y → (x == y) ≡ true
 same-number x y e = grind (arith, e)
 
 -- ---- the node
-module _ {Q I : Type 0} (R : Rows Q I) (fits : I → Type 0) (saved : ℕ) (code : ℕ → ℕ → List I) (lead : PrologsLead R fits saved code) (c : Code) (i line : ℕ) (f : Function)
+module _ {Q I : Type 0} (R : Rows Q I) (fits : I → Type 0) (saved : ℕ) (code : ℕ → ℕ → List I) (lead : PrologsLead R fits saved code) (c : Code) (i line homes : ℕ) (f : Function)
     (S : ℕ → Bool) (t : IsInText c i (prolog_node line))
-    (function : function_here c.shape.functions i ≡ Some f) (is-saved : saved_at c i ≡ saved) (k : IsNodeCode R fits c i (code (frame_of f) (homes_at c i)))
+    (function : function_here c.shape.functions i ≡ Some f) (is-saved : saved_at c i ≡ saved) (reads : homes_at c i ≤ homes) (k : IsNodeCode R fits c i (code (frame_of f) homes))
     (live : Frame → ℕ → Bool) (s : State) (returns : ReturnsTo c live (prolog_node line) S s) (out : List ℕ) (q : Q) (at : s.at ≡ i)
     (st : Stands R.processor c live s out q (live_before (prolog_node line) S)) where
   abbrev n : Node
@@ -73,9 +73,6 @@ module _ {Q I : Type 0} (R : Rows Q I) (fits : I → Type 0) (saved : ℕ) (code
 
   abbrev sp : ℕ
   sp = s.frame.sp
-
-  abbrev homes : ℕ
-  homes = homes_at c i
 
   abbrev high : ℕ
   high = behind R (c.place i) (code (frame_of f) homes)
@@ -124,12 +121,12 @@ module _ {Q I : Type 0} (R : Rows Q I) (fits : I → Type 0) (saved : ℕ) (code
       let less = live-saved c live s.frame g gs returns.saves (subst (λ l. AreLinked c.nodes c.shape s.frame l) e st.state.fits.linked) v lt l i in
       enters.saved v (omega (arith, less, is-saved)) lt
 
-  words : HasFrameWords target c.place (R.processor.seen u).bytes s'.frame s.callers (live (at_call s.frame)) homes
+  words : HasFrameWords target c.place (R.processor.seen u).bytes s'.frame s.callers (live (at_call s.frame)) (homes_at c i)
   words = record {
     back = enters.back (return_address c.place s.frame s.callers) arrives.link;
     caller = keeps-caller target (R.processor.seen u).bytes (R.processor.seen q).registers s.frame (frame_of f) f.locals s.callers
         (live (at_call s.frame)) enters.caller live-stored arrives.caller;
-    homes = λ j x read lt e. subst (HasWord (R.processor.seen u).bytes _) (arrives.arguments.is j x lt e) (enters.homes j read lt);
+    homes = λ j x read lt e. subst (HasWord (R.processor.seen u).bytes _) (arrives.arguments.is j x lt e) (enters.homes j (omega (arith, read, reads)) lt);
   }
 
   -- the next node stands in the same function
@@ -138,7 +135,7 @@ module _ {Q I : Type 0} (R : Rows Q I) (fits : I → Type 0) (saved : ℕ) (code
       let more = (t.well.falls i i entry (ap is_epilog_at t.here)).0 in
       ap (λ j. function_at c (j + 1)) at ∙ function-same c i n t i (i + 1) i entry more
 
-  next-home : homes ≡ homes_at c (s.at + 1)
+  next-home : homes_at c i ≡ homes_at c (s.at + 1)
   next-home = sym (ap (homes_in c.nodes.nodes) next-function)
 
   -- the function begins at the node
@@ -211,5 +208,5 @@ module _ {Q I : Type 0} (R : Rows Q I) (fits : I → Type 0) (saved : ℕ) (code
 
 pub prologs-carry : {Q I : Type 0} (R : Rows Q I) (fits : I → Type 0) (saved : ℕ) (code : ℕ → ℕ → List I) → PrologsLead R fits saved code
     → PrologsCarry R fits saved code
-prologs-carry R fits saved code lead c i line f S t function is-saved k live s returns out q at st =
-    inr (prolog-leads R fits saved code lead c i line f S t function is-saved k live s returns out q at st)
+prologs-carry R fits saved code lead c i line homes f S t function is-saved reads k live s returns out q at st =
+    inr (prolog-leads R fits saved code lead c i line homes f S t function is-saved reads k live s returns out q at st)

@@ -3,7 +3,7 @@ use Rattle.std.proofs.Common.{◌≡◌, ◌≢◌, ℕ, ◌+◌, ◌<◌, ◌�
 use Rattle.std.specs.Prelude.{slice_get, slice_index, if◌then◌else◌}
 use Rattle.lg_carry.proofs.TurnLemmas.{rising-turns, return-moves, return-no-sink}
 use Rattle.lg_base.specs.Conventions.{portable_register, frame_register, stack_register}
-use Rattle.lg_base.specs.Layout.{stack_end, return_word, frame_pointer, saved_word}
+use Rattle.lg_base.specs.Layout.{return_word, frame_pointer, saved_word}
 use Rattle.lg_base.specs.declared.target.Target.{Target}
 use Rattle.lg_op.specs.declared.form.Form.TheVariants as form
 use Rattle.lg_op.specs.declared.operand.Operand.TheVariants as operand

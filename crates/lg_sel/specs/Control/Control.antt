@@ -17,7 +17,7 @@ use Rattle.lg_op.specs.declared.operand.Operand.TheVariants as operand
 use Rattle.lg_op.specs.declared.operand.Reg.{Reg}
 use Rattle.lg_op.specs.declared.node.Node.{Node}
 use Rattle.lg_carry.specs.FinalNodes.{Code, saved_at}
-use Rattle.lg_carry.specs.Homes.{IsHomesOf}
+use Rattle.lg_sel.specs.Control.Prologs.{IsHomesOf}
 use Rattle.lg_carry.specs.NodeCode.{CarriesNode}
 use Rattle.lg_carry.specs.Passages.{IsNodeCode}
 use Rattle.lg_carry.specs.Rows.{Rows}

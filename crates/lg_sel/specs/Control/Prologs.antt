@@ -1,5 +1,5 @@
 -- `prolog`: what a target's code of it does, wherever it stands, and that the node with this code is carried.
-use Rattle.std.specs.Prelude.{◌≡◌, ℕ, ◌+◌, ◌-◌, ◌%◌, ◌<◌, ◌≤◌, ◌⊎◌, Bool, List, [], length, slice_index, Some, true}
+use Rattle.std.specs.Prelude.{◌≡◌, ℕ, ◌+◌, ◌-◌, ◌%◌, ◌<◌, ◌≤◌, ◌⊎◌, Bool, List, [], length, slice_index, slice_get, Some, true}
 use Rattle.lg_base.specs.Conventions.{argument_registers, portable_register, frame_register, stack_register, link_register}
 use Rattle.lg_base.specs.Layout.{frame_pointer, return_word, saved_word, home_word, least_frame, stack_end}
 use Rattle.lg_base.specs.Runs.{Running}
@@ -7,7 +7,7 @@ use Rattle.lg_op.specs.declared.op.Op.TheVariants as op
 use Rattle.lg_op.specs.declared.op.PlainOp.TheVariants as plain
 use Rattle.lg_op.specs.declared.node.Node.{Node}
 use Rattle.lg_node.specs.declared.function.Function.{Function}
-use Rattle.lg_node.specs.Functions.{frame_of}
+use Rattle.lg_node.specs.Functions.{frame_of, is_prolog_at}
 use Rattle.lg_meaning.specs.Steps.{function_here}
 use Rattle.lg_carry.specs.FinalNodes.{Code, saved_at}
 use Rattle.lg_carry.specs.Frames.{arriving, IsLinked}
@@ -61,8 +61,12 @@ PrologsLead {Q} R fits saved code =
 abbrev pub prolog_node : ℕ → Node
 prolog_node line = record { op = op.Plain plain.Prolog; operands = []; line = line }
 
--- the frame is that of the function that begins at the node, the homes are those that it reads, and so many are saved as its frames save
+-- a `prolog` with so many homes stores those that the function which begins at the node reads, and may store more
+abbrev pub IsHomesOf : Code → ℕ → ℕ → Type 0
+IsHomesOf c i homes = is_prolog_at (slice_get c.nodes.nodes i) ≡ true → homes_at c i ≤ homes
+
+-- the frame is that of the function that begins at the node, the homes are at least those that it reads, and so many are saved as its frames save
 abbrev pub PrologsCarry : {Q I : Type 0} → Rows Q I → (I → Type 0) → ℕ → (ℕ → ℕ → List I) → Type 0
 PrologsCarry R fits saved code =
-    (c : Code) (i line : ℕ) (f : Function) (S : ℕ → Bool) → IsInText c i (prolog_node line) → function_here c.shape.functions i ≡ Some f → saved_at c i ≡ saved
-    → IsNodeCode R fits c i (code (frame_of f) (homes_at c i)) → CarriesNode R.processor c i (prolog_node line) S
+    (c : Code) (i line homes : ℕ) (f : Function) (S : ℕ → Bool) → IsInText c i (prolog_node line) → function_here c.shape.functions i ≡ Some f → saved_at c i ≡ saved
+    → homes_at c i ≤ homes → IsNodeCode R fits c i (code (frame_of f) homes) → CarriesNode R.processor c i (prolog_node line) S

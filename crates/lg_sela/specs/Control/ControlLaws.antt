@@ -3,7 +3,7 @@ use Rattle.std.specs.Prelude.{◌≡◌, ℕ, Bool, true, false, List, slice_ind
 use Rattle.lg_op.specs.declared.node.Node.{Node}
 use Rattle.lg_op.specs.declared.operand.Operand.{Operand}
 use Rattle.lg_carry.specs.FinalNodes.{Code, saved_at}
-use Rattle.lg_carry.specs.Homes.{IsHomesOf}
+use Rattle.lg_sel.specs.Control.Prologs.{IsHomesOf}
 use Rattle.lg_carry.specs.NodeCode.{CarriesNode}
 use Rattle.lg_carry.specs.TextNodes.{IsInText, IsFrameOf, HasPlaces}
 use Rattle.lg_sela_values.specs.Processor.A64Rows.{a64_processor}
