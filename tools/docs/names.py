@@ -83,6 +83,8 @@ def lost_of_rule(cell, crate):
         known_here = set().union(*(words_of(path) for path in paths if path.is_file()))
         listed_names = re.sub(r"\([^)]*\)|, and one for each row that stands alone| to (?=row_)", " ", found.group(2))
         yield from (name for name in re.findall(r"\w+", listed_names) if name not in known_here)
+        inner = ", ".join(re.findall(r"\(([^)]*)\)", found.group(2))).split(", ")
+        yield from (name for name in inner if re.fullmatch(r"\w+", name) and name not in known_here)
 
 
 def lost_paths(line, crate):

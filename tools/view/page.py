@@ -27,6 +27,8 @@ TOKEN = re.compile(
     re.S | re.X,
 )
 WORD = re.compile(r"[A-Za-z_]\w*")
+# the part that follows the word of a statement that there is not
+PART = re.compile(r", in the (?:code|data) part$")
 # an operand that a sentence of `explain` names, and the tokens that can be one
 OPERAND = re.compile(r"operand (\d+) of (\w+)")
 OPERANDS = re.compile(r"\$\([^()]*(?:\([^()]*\)[^()]*)*\)|\"(?:\\.|[^\"\\])*\"|'(?:\\.|[^'\\])+'|[%$@]?[-+]?\w+")
@@ -154,8 +156,8 @@ def count(part, most, title):
 
 def marked_in(line, shown, sentences):
     """Returns the HTML of a line with what the sentences blame marked: a word at the end of one, or an operand of an instruction; else the whole line."""
-    blamed = [it.rpartition(": ")[2] for it in sentences[:1] if ": " in it]
-    for number, name in OPERAND.findall(" ".join(sentences[:1])):
+    blamed = [PART.sub("", it.rpartition(": ")[2]) for it in sentences[:1] if ": " in it]
+    for number, name in OPERAND.findall(" ".join(sentences)):
         _, found, rest = line.partition(name)
         blamed += [it for it in OPERANDS.findall(rest)[int(number) - 1 : int(number)] if found]
     for word in map(html.escape, blamed):

@@ -2,6 +2,11 @@ pub mod BlamedLemmas
 pub mod BlameLemmas
 pub mod CallLemmas
 pub mod FirstTwiceLemmas
+pub mod FormsTakenLemmas
+pub mod MisfitLemmas
+pub mod MisfitsRefusedLemmas
+pub mod ReasonLemmas
+pub mod ShownLemmas
 pub mod TwiceLemmas
 pub mod UnknownLemmas
 pub mod WriteLemmas

@@ -1,8 +1,13 @@
+pub mod BadBytes
 pub mod Blamed
 pub mod Blames
 pub mod Calls
+pub mod FormsTaken
 pub mod Lines
 pub mod Made
+pub mod Misfits
+pub mod MisfitsRefused
+pub mod ReasonsHold
 pub mod Sentences
 pub mod Stops
 pub mod Twice

@@ -1,8 +1,10 @@
 -- What is said of a line, each as its pieces in a row.
-use Rattle.std.specs.Prelude.{ℕ, List, [], ◌∷◌, ◌++◌, Option, Some, None, codes}
+use Rattle.std.specs.Prelude.{ℕ, Bool, true, false, if◌then◌else◌, List, [], ◌∷◌, ◌++◌, Option, Some, None, codes}
 use Rattle.lg_base.specs.HostNames.{host_word}
 use Rattle.lg_base.specs.Refusals.{sentence_of_kind}
 use Rattle.lg_base.specs.declared.refusal.Refusal.{Refusal}
+use Rattle.lg_base.specs.declared.refusal.RefusalKind.{RefusalKind}
+use Rattle.lg_base.specs.declared.refusal.RefusalKind.TheVariants.{BadToken, BadOperand}
 use Rattle.lg_io.specs.Radixes.{digits_in}
 use Rattle.lg_io.specs.Wrote.{row}
 use Rattle.lg_io.specs.declared.digits.Radix.TheVariants.{Decimal, Hexadecimal}
@@ -29,9 +31,19 @@ said_line file line sentence = row (file ∷ codes ":" ∷ line ∷ codes ": " �
 abbrev pub word_line : (file line sentence word : List ℕ) → List ℕ
 word_line file line sentence word = row (file ∷ codes ":" ∷ line ∷ codes ": " ∷ sentence ∷ codes ": " ∷ word ∷ codes "\n" ∷ [])
 
+-- of two kinds it is a sentence of its own, in a line of its own
+abbrev pub is_detailed : RefusalKind → Bool
+is_detailed BadToken = true
+is_detailed BadOperand = true
+is_detailed kind = false
+
+abbrev pub blamed_line : RefusalKind → (file line word : List ℕ) → List ℕ
+blamed_line kind file line word = if is_detailed kind then said_line file line (sentence_of_kind kind) ++ said_line file line word
+    else word_line file line (sentence_of_kind kind) word
+
 abbrev pub sentence_line : (file : List ℕ) → Option (List ℕ) → Refusal → List ℕ
 sentence_line file None refusal = said_line file (digits_in Decimal refusal.line) (sentence_of_kind refusal.kind)
-sentence_line file (Some word) refusal = word_line file (digits_in Decimal refusal.line) (sentence_of_kind refusal.kind) word
+sentence_line file (Some word) refusal = blamed_line refusal.kind file (digits_in Decimal refusal.line) word
 
 -- the lines behind the line of a refusal of a text, with the word that it blames
 abbrev pub refusal_lines : (file text : List ℕ) → Option (List ℕ) → Refusal → List ℕ

@@ -2,6 +2,7 @@
 use Rattle.std.specs.Prelude.{ℕ, Bool, true, false, not, ◌&&◌, ◌||◌, if◌then◌else◌, List, [], ◌∷◌, drop, Option, Some, None, is_some, codes}
 use Rattle.std.specs.Option.{option_or}
 use Rattle.std.specs.Str.{bytes_eq}
+use Rattle.lg_io.specs.Wrote.{row}
 use Rattle.lg_lex.specs.Tokens.{tokens_of}
 use Rattle.lg_lex.specs.declared.token.Token.{Token}
 use Rattle.lg_lex.specs.declared.token.TokenKind.{TokenKind}
@@ -138,8 +139,16 @@ rest_behind p forms r kind text = if belongs forms r kind then rest_on_in forms 
 abbrev pub is_unknown : Part → List Form → Rest → TokenKind → (text : List ℕ) → Bool
 is_unknown p forms r kind text = not (belongs forms r kind) && begins_none p kind text
 
+-- the token, and the part in which it stands
+abbrev pub part_words : Part → List ℕ
+part_words part.Data = codes ", in the data part"
+part_words p = codes ", in the code part"
+
+abbrev pub unknown_words : Part → (text : List ℕ) → List ℕ
+unknown_words p text = row (text ∷ part_words p ∷ [])
+
 abbrev pub unknown : Part → List Form → Rest → TokenKind → (text : List ℕ) → Option (List ℕ)
-unknown p forms r kind text = if is_unknown p forms r kind text then Some text else None
+unknown p forms r kind text = if is_unknown p forms r kind text then Some (unknown_words p text) else None
 
 unfoldable pub unknown_from : List ℕ → List Token → Part → List Form → Rest → Option (List ℕ)
 unknown_from text [] p forms r = None

@@ -1,6 +1,9 @@
 //! Laws of the words that are told. The functions do nothing: their contracts are the laws.
 
 ghost use Rattle.lg_explain.specs.Blamed.{LabelsAreBlamed, WordsAreBlamed};
+ghost use Rattle.lg_explain.specs.FormsTaken.{FormsAreTaken};
+ghost use Rattle.lg_explain.specs.MisfitsRefused.{MisfitsAreRefused};
+ghost use Rattle.lg_explain.specs.ReasonsHold.{ReasonsHold};
 ghost use Rattle.lg_explain.specs.TwiceMade.{FirstIsMadeTwice, FirstIsTold};
 
 /// The label that is told of nodes that are refused is the one that the kind blames at the first node that is refused, whose line the refusal has: the first
@@ -23,4 +26,21 @@ pub fn first_is_made_twice()
 /// And it is the word that is told of what was read, whose expansion has no unit.
 pub fn first_is_told()
     ensures { FirstIsTold }
+{}
+
+/// A token counts as no operand of a form exactly where the reading of operands refuses it for its form, whatever labels and names the text has made.
+pub fn misfits_are_refused()
+    ensures { MisfitsAreRefused }
+{}
+
+/// The reason that is given for an undefined step holds of the state before it, in the words of its row of the table: an operand's register has no word, the
+/// carry is not one that the operation takes in, and so on.
+pub fn reasons_hold()
+    ensures { ReasonsHold }
+{}
+
+/// A statement that begins with a word, but for `note`, is read from that token and one for each form that counts as left behind it: so the words that a text
+/// makes twice are looked for in the statements of the reading.
+pub fn forms_are_taken()
+    ensures { FormsAreTaken }
 {}

@@ -2,10 +2,12 @@
 //! hold.
 #![tactic(auto)]
 
+mod bad_byte;
 mod calls;
 pub mod laws;
 pub mod line;
 mod made;
+mod misfit;
 mod place;
 pub mod say;
 pub mod stop;

@@ -1,7 +1,8 @@
 // A line of a text, and how it is shown.
 
-ghost use Rattle.std.specs.Prelude.{◌≡◌, ◌<◌, ◌≤◌, [], ◌∷◌, ◌++◌, length, take, IfSome};
+ghost use Rattle.std.specs.Prelude.{◌≡◌, ◌<◌, ◌≤◌, [], ◌∷◌, ◌++◌, length, map, nat_lt, take, IfSome};
 ghost use Rattle.lg_explain.specs.Lines.{behind_line, behind_lines, first_feed, first_line, is_hidden, line_in, most_shown, shown, shown_byte};
+ghost use Rattle.lg_io.specs.Wrote.{joined};
 
 use std::marker::Model;
 
@@ -124,6 +125,36 @@ impl Shown {
         let mut shown = Shown::new();
         for byte in Shown::front(line) {
             shown.push(shown_byte(*byte));
+        }
+        shown
+    }
+
+    // Whether there is room for a byte more.
+    fn has_room(&self) -> bool
+        ensures { result ≡ nat_lt (length self.now) most_shown }
+    {
+        self.len < MOST_SHOWN
+    }
+
+    // Appends bytes as they are shown, as long as there is room.
+    fn append(&mut self, bytes: &[u8])
+        requires { length self.old ≤ most_shown }
+        ensures { self.new ≡ take most_shown (self.old ++ map shown_byte bytes.now) }
+    {
+        for byte in bytes {
+            if self.has_room() {
+                self.push(shown_byte(*byte));
+            }
+        }
+    }
+
+    /// Pieces in a row, shown as a line is.
+    pub fn of_row(pieces: &[&[u8]]) -> Shown
+        ensures { result ≡ shown (joined pieces.now) }
+    {
+        let mut shown = Shown::new();
+        for piece in pieces {
+            shown.append(piece);
         }
         shown
     }

@@ -42,8 +42,8 @@ pub enum Rest {
 
 // ---- what belongs to the statement at hand
 
-// Whether a token is a number, a character or an expression.
-fn is_number(kind: TokenKind) -> bool
+/// Whether a token is a number, a character or an expression.
+pub fn is_number(kind: TokenKind) -> bool
     ensures { result ≡ is_number kind }
 {
     matches!(
@@ -66,8 +66,8 @@ fn goes_on(rest: Rest, kind: TokenKind) -> bool
     }
 }
 
-// Whether a token belongs to the statement at hand.
-fn belongs(forms: &[Form], rest: Rest, kind: TokenKind) -> bool
+/// Whether a token belongs to the statement at hand.
+pub fn belongs(forms: &[Form], rest: Rest, kind: TokenKind) -> bool
     ensures { result ≡ belongs forms.now rest kind }
 {
     match forms {
@@ -274,8 +274,8 @@ fn rest_begun(part: Part, kind: TokenKind, text: &[u8]) -> Rest
 
 // ---- what stands behind a token
 
-// Forms without the first.
-fn forms_on(forms: &'static [Form]) -> &'static [Form]
+/// Forms without the first.
+pub fn forms_on(forms: &'static [Form]) -> &'static [Form]
     ensures { result.now ≡ drop 1 forms.now }
 {
     match forms {

@@ -1,14 +1,14 @@
 // What is said of a line.
 
-ghost use Rattle.std.specs.Prelude.{◌≡◌};
-ghost use Rattle.lg_explain.specs.Sentences.{item_words, reason_line, refusal_lines, register_part, register_parts, registers_line, said_line, sentence_line, sentence_of, step_lines, stuck_lines, text_line, where_words, which_are_allowed, word_line, words_of, words_of_two};
+ghost use Rattle.std.specs.Prelude.{◌≡◌, ◌++◌};
+ghost use Rattle.lg_explain.specs.Sentences.{blamed_line, is_detailed, item_words, reason_line, refusal_lines, register_part, register_parts, registers_line, said_line, sentence_line, sentence_of, step_lines, stuck_lines, text_line, where_words, which_are_allowed, word_line, words_of, words_of_two};
 ghost use Rattle.lg_io.specs.Radixes.{digits_in};
 ghost use Rattle.lg_io.specs.SinkChanges.{WroteTo, on_sink};
 ghost use Rattle.lg_operand.specs.Registers.{register_word};
 
 use crate::line::{Shown, line_in};
 use crate::stop::StuckAt;
-use lg_base::{HostName, Refusal};
+use lg_base::{HostName, Refusal, RefusalKind};
 use lg_io::{Digits, Radix, Sink, SinkFault, write_parts};
 use lg_meaning::reason::Reason;
 use lg_node::Reg;
@@ -45,7 +45,7 @@ fn write_said<'a, E: Sink>(
 }
 
 // Writes a sentence with a word behind it, whose parts are these.
-fn write_blamed<'a, E: Sink>(
+fn write_word<'a, E: Sink>(
     file: &'a [u8],
     line: &'a [u8],
     sentence: &'a [u8],
@@ -61,6 +61,48 @@ fn write_blamed<'a, E: Sink>(
     )
 }
 
+// Whether what is blamed is a sentence of its own.
+fn is_detailed(kind: RefusalKind) -> bool
+    ensures { result ≡ is_detailed kind }
+{
+    matches!(kind, RefusalKind::BadToken | RefusalKind::BadOperand)
+}
+
+// Writes two sentences, each in a line.
+fn write_both<E: Sink>(
+    file: &[u8],
+    line: &[u8],
+    first: &[u8],
+    second: &[u8],
+    err: &mut E,
+) -> Result<(), SinkFault>
+    ensures { let lines = said_line file.now line.now first.now ++ said_line file.now line.now second.now in
+        WroteTo (on_sink E.taken E.faults err.old err.new) result lines }
+{
+    match write_said(file, line, first, err) {
+        Ok(()) => write_said(file, line, second, err),
+        Err(fault) => Err(fault),
+    }
+}
+
+// Writes the sentence of a kind, and what it blames: a word behind it, or a sentence of its own.
+fn write_blamed<E: Sink>(
+    kind: RefusalKind,
+    file: &[u8],
+    line: &[u8],
+    word: &[u8],
+    err: &mut E,
+) -> Result<(), SinkFault>
+    ensures { WroteTo (on_sink E.taken E.faults err.old err.new) result (blamed_line kind file.now line.now word.now) }
+{
+    let sentence = kind.sentence().as_bytes();
+    if is_detailed(kind) {
+        write_both(file, line, sentence, word, err)
+    } else {
+        write_word(file, line, sentence, word, err)
+    }
+}
+
 // Writes the sentence of a refusal's kind, and the word that it blames.
 fn write_sentence<E: Sink>(
     file: &[u8],
@@ -71,10 +113,14 @@ fn write_sentence<E: Sink>(
     ensures { WroteTo (on_sink E.taken E.faults err.old err.new) result (sentence_line file.now word.now refusal) }
 {
     let number = Digits::of(u64::from(refusal.line), Radix::Decimal);
-    let sentence = refusal.kind.sentence().as_bytes();
     match word {
-        Some(word) => write_blamed(file, number.as_slice(), sentence, word.as_slice(), err),
-        None => write_said(file, number.as_slice(), sentence, err),
+        Some(word) => write_blamed(refusal.kind, file, number.as_slice(), word.as_slice(), err),
+        None => write_said(
+            file,
+            number.as_slice(),
+            refusal.kind.sentence().as_bytes(),
+            err,
+        ),
     }
 }
 

@@ -8,8 +8,10 @@ ghost use Rattle.lg_explain.specs.Words.{blamed_as, blamed_by, names_word, token
 ghost use Rattle.lg_pre.specs.Expanded.{expanded};
 ghost use Rattle.lg_tst.specs.Units.{unit_of};
 
+use crate::bad_byte::bad_byte;
 use crate::calls::first_between;
 use crate::line::Shown;
+use crate::misfit::first_misfit;
 use crate::targets::{first_astray, first_missing};
 use crate::twice::made_twice;
 use crate::unknown::first_unknown;
@@ -64,13 +66,15 @@ fn word_in(alloc: Global, kind: RefusalKind, nodes: &NodeList) -> Result<Option<
 
 // ---- of texts
 
-// The word of a text's tokens that a kind blames.
+// The word of a text's tokens that a kind blames, or what is said of them.
 fn token_in(alloc: Global, kind: RefusalKind, text: &[u8]) -> Result<Option<Shown>, OutOfMemory>
     requires { length text.now ≤ 16777216 }
     ensures { IfOk result (λ word. word ≡ option_map shown (token_in kind text.now)) }
 {
     match kind {
+        RefusalKind::BadToken => Ok(bad_byte(text)),
         RefusalKind::UnknownName => Ok(first_unknown(text)),
+        RefusalKind::BadOperand => Ok(first_misfit(text)),
         RefusalKind::LabelTwice => made_twice(alloc, text),
         _ => Ok(None),
     }
@@ -106,7 +110,9 @@ fn names_word(kind: RefusalKind) -> bool
 {
     matches!(
         kind,
-        RefusalKind::UnknownName
+        RefusalKind::BadToken
+            | RefusalKind::UnknownName
+            | RefusalKind::BadOperand
             | RefusalKind::LabelTwice
             | RefusalKind::LabelMissing
             | RefusalKind::TargetOutside

@@ -1,0 +1,65 @@
+use Rattle.std.proofs.Common.{◌≡◌, [], Some, Ok, sym, ap, ◌∙◌, subst}
+use Rattle.std.specs.Option.{option_map}
+use Rattle.lg_lex.specs.Tokens.{AreInOrder}
+use Rattle.lg_lex.specs.declared.token.Token.{Token}
+use Rattle.lg_tst.specs.Streams.{text_of}
+use Rattle.lg_explain.specs.Lines.{shown}
+use Rattle.lg_explain.specs.Misfits.{first_misfit, misfit, misfit_from, word_behind}
+use Rattle.lg_explain.specs.Unknown.{forms_behind, part_behind, rest_behind}
+use Rattle.lg_explain.specs.declared.place.Part.TheVariants.{First}
+use Rattle.lg_explain.specs.declared.place.Rest.TheVariants.{Nothing}
+use Rattle.lg_explain.proofs.MisfitLemmas.{at_end, found_here, left_behind, next}
+use Rattle.lg_explain.proofs.misfit.first_misfit.Goals.{in_default, in_default-2}
+use Rattle.lg_explain.proofs.misfit.first_misfit.Goals as goal
+
+pub loop-token-init : goal.loop-token-init
+loop-token-init c =
+    let e = c.new-lexer.ensures in
+    let text = c.args.text.now in
+    record {
+      place = 0;
+      order = subst (λ t. AreInOrder text 0 t.0) (sym e.tokens) e.order;
+      same = λ i. misfit_from text (e.tokens i).0 First [] Nothing [] [];
+    }
+
+pub text_of-bytes-requires-clause-order : goal.text_of-bytes-requires-clause-order
+text_of-bytes-requires-clause-order c = (next c.args.text.now _ _ _ _ _ _ _ _ _ _ c.loop-token.invariant c.next.ensures (c.in-Ok-Some.is ∙ ap (λ o. Ok o) c.in-Ok-Some.field-0-is)).start
+
+pub text_of-bytes-requires-clause-within : goal.text_of-bytes-requires-clause-within
+text_of-bytes-requires-clause-within c = (next c.args.text.now _ _ _ _ _ _ _ _ _ _ c.loop-token.invariant c.next.ensures (c.in-Ok-Some.is ∙ ap (λ o. Ok o) c.in-Ok-Some.field-0-is)).end
+
+pub returns-in-Some : goal.returns-in-Some
+returns-in-Some c =
+    let text = c.args.text.now in
+    let token = c.in-Ok-Some.token in
+    let l = c.loop-token in
+    let h = next text _ _ _ _ _ _ _ _ _ token l.invariant c.next.ensures (c.in-Ok-Some.is ∙ ap (λ o. Ok o) c.in-Ok-Some.field-0-is) in
+    let bytes : c.text_of-bytes.result.now ≡ text_of text token = c.text_of-bytes.ensures in
+    found_here text (first_misfit text) token c.next.new.self l.part l.left.now l.rest l.word.now l.before.now c.in-Some.words h
+    (sym c.in-Some.is ∙ c.misfit.ensures ∙ ap (λ b. option_map shown (misfit l.left.now l.rest l.word.now l.before.now token.kind b token.value)) bytes)
+
+pub loop-token-preserved : goal.loop-token-preserved
+loop-token-preserved c =
+    let text = c.args.text.now in
+    let token = c.in-Ok-Some.token in
+    let l = c.loop-token in
+    let h = next text _ _ _ _ _ _ _ _ _ token l.invariant c.next.ensures (c.in-Ok-Some.is ∙ ap (λ o. Ok o) c.in-Ok-Some.field-0-is) in
+    let bytes : c.text_of-bytes.result.now ≡ text_of text token = c.text_of-bytes.ensures in
+    left_behind text (first_misfit text) token c.next.new.self l.part l.left.now l.rest l.word.now l.before.now
+    c.part_behind-part.result c.forms_behind-left.result.now c.rest_behind-rest.result c.word_behind-word.result.now c.text_of-bytes.result.now h
+    (sym c.in_default-misfit.is ∙ c.misfit.ensures ∙ ap (λ b. option_map shown (misfit l.left.now l.rest l.word.now l.before.now token.kind b token.value)) bytes)
+    (c.part_behind-part.ensures ∙ ap (λ b. part_behind l.part l.left.now l.rest token.kind b) bytes)
+    (c.forms_behind-left.ensures ∙ ap (λ b. forms_behind l.part l.left.now l.rest token.kind b) bytes)
+    (c.rest_behind-rest.ensures ∙ ap (λ b. rest_behind l.part l.left.now l.rest token.kind b) bytes)
+    (c.word_behind-word.ensures ∙ ap (λ b. word_behind l.left.now l.rest l.word.now token.kind b) bytes)
+    bytes
+
+pub returns : goal.returns
+returns c =
+    let text = c.args.text.now in
+    let l = c.loop-token in
+    let none : (token : Token) → c.next.result ≡ Ok (Some token) → ⊥ = λ token e. elim c.match-next.branch [
+      | in_default w ↦ (let no = sym w.in_default.is ∙ e in cc)
+      | in_default-2 w ↦ (let no = sym w.in_default.is ∙ e in cc)
+    ] in
+    c.missing.ensures ∙ ap (option_map shown) (at_end text (first_misfit text) l.lexer l.part l.left.now l.rest l.word.now l.before.now c.next.result c.next.new.self l.invariant c.next.ensures none)
