@@ -25,6 +25,7 @@ use lg_macro::{
 use memchr::memchr;
 use memchr::memmem::find;
 use std::alloc::Global;
+use std::mem::replace;
 
 /// What a text has come to: macros, open conditions, the lines that wait for the next directive, bytes given, and the sum of replacements.
 #[derive(Drop)]
@@ -153,7 +154,7 @@ impl Expander {
     }
 
     // Gives the lines that wait, expanded.
-    fn give_lines(&mut self, alloc: Global) -> Result<(), Stop>
+    fn give_lines(&mut self, alloc: Global, spare: &mut Spare) -> Result<(), Stop>
         ensures { CountsAs result self.new (gives_lines self.old) }
     {
         let mut work = Work {
@@ -161,9 +162,10 @@ impl Expander {
             hidden: Vec::new(alloc),
             sum: self.sum,
             room: MOST_HELD,
-            spare: Spare::new(alloc),
+            spare: replace(spare, Spare::new(alloc)),
         };
         flush(&self.table, &mut work, &self.lines, &mut self.given)?;
+        *spare = work.spare;
         self.sum = work.sum;
         self.lines.clear();
         Ok(())
@@ -180,13 +182,13 @@ impl Expander {
     }
 
     // Gives what becomes of the lines that wait.
-    fn flush_lines(&mut self, alloc: Global) -> Result<(), Stop>
+    fn flush_lines(&mut self, alloc: Global, spare: &mut Spare) -> Result<(), Stop>
         ensures { CountsAs result self.new (flushes self.old) }
     {
         if self.conditions.is_skipping() {
             self.feed_lines(alloc)
         } else {
-            self.give_lines(alloc)
+            self.give_lines(alloc, spare)
         }
     }
 
@@ -214,6 +216,7 @@ impl Expander {
     fn direct(
         &mut self,
         alloc: Global,
+        spare: &mut Spare,
         text: &Pieces,
         at: usize,
         sign: usize,
@@ -225,14 +228,20 @@ impl Expander {
         ensures gives { StepsAs result self.new (directs text.now self.old at sign end) }
         ensures end { IfOk result (λ n. n ≡ end) }
     {
-        self.flush_lines(alloc)?;
+        self.flush_lines(alloc, spare)?;
         let body = body_between(alloc, text, sign + 1, end)?;
         self.directed(alloc, text, at, end, text.line(sign), &body)
     }
 
     // Reads the line that begins at a place: the place behind it.
     #[tactic(auto, unfolding(crate::specs::Expanded::one_line))]
-    fn one_line(&mut self, alloc: Global, text: &Pieces, at: usize) -> Result<usize, Stop>
+    fn one_line(
+        &mut self,
+        alloc: Global,
+        spare: &mut Spare,
+        text: &Pieces,
+        at: usize,
+    ) -> Result<usize, Stop>
         requires { at < length text.now }
         ensures line { StepsAs result self.new (one_line text.now self.old at) }
         ensures inside { IfOk result (λ n. (at < n) × (n ≤ length text.now)) }
@@ -246,17 +255,17 @@ impl Expander {
             }
             Some(n) => {
                 let end = at + n + line_len(text, at + n, true);
-                self.direct(alloc, text, at, at + n, end)
+                self.direct(alloc, spare, text, at, at + n, end)
             }
         }
     }
 
     // Gives what is left at the end of a text.
     #[tactic(auto, unfolding(crate::specs::Expanded::finishes))]
-    fn finish(&mut self, alloc: Global) -> Result<(), Stop>
+    fn finish(&mut self, alloc: Global, spare: &mut Spare) -> Result<(), Stop>
         ensures { CountsAs result self.new.given (finishes self.old) }
     {
-        self.flush_lines(alloc)?;
+        self.flush_lines(alloc, spare)?;
         match self.conditions.innermost() {
             None => Ok(()),
             Some(condition) => Err(refused(RefusalKind::BadDirective, condition.line)),
@@ -268,12 +277,13 @@ impl Expander {
         ensures { CountsAs result self.new.given (lines_in (length text.now) text.now self.old 0) }
     {
         let end = text.len();
+        let mut spare = Spare::new(alloc);
         let mut at = 0;
         'lines: while at < end {
-            let next = self.one_line(alloc, text, at)?;
+            let next = self.one_line(alloc, &mut spare, text, at)?;
             at = next;
         }
-        self.finish(alloc)
+        self.finish(alloc, &mut spare)
     }
 }
 
