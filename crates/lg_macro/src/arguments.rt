@@ -99,8 +99,8 @@ fn solid_len(pieces: &Pieces) -> usize
     n
 }
 
-// Pieces without the white space at their ends. They are not copied where none is there.
-pub(crate) fn without_ends(spare: &mut Spare, pieces: Pieces) -> Result<Pieces, OutOfMemory>
+/// Pieces without the white space at their ends. They are not copied where none is there.
+pub fn without_ends(spare: &mut Spare, pieces: Pieces) -> Result<Pieces, OutOfMemory>
     ensures { IfOk result (λ r. r ≡ stripped pieces) }
 {
     let end = solid_len(&pieces);
@@ -111,17 +111,6 @@ pub(crate) fn without_ends(spare: &mut Spare, pieces: Pieces) -> Result<Pieces, 
     let mut solid = spare.take();
     solid.append_between(&pieces, start, end)?;
     spare.give(pieces);
-    Ok(solid)
-}
-
-/// Pieces without the white space at their ends.
-pub fn stripped(alloc: Global, pieces: &Pieces) -> Result<Pieces, OutOfMemory>
-    ensures { IfOk result (λ r. r ≡ stripped pieces.now) }
-{
-    let end = solid_len(pieces);
-    let start = white_len(pieces, end);
-    let mut solid = Pieces::with_room(alloc, end - start, pieces.size())?;
-    solid.append_between(pieces, start, end)?;
     Ok(solid)
 }
 

@@ -66,7 +66,7 @@ fn push_spliced(out: &mut Pieces, pieces: &Pieces, at: usize, end: usize) -> Res
 
 /// The pieces of a directive between two places: a comment or a spliced line feed is a space, and the backslash of a splice goes.
 pub fn spliced(
-    alloc: Global,
+    spare: &mut Spare,
     pieces: &Pieces,
     from: usize,
     end: usize,
@@ -75,7 +75,7 @@ pub fn spliced(
     requires inside { end ≤ length pieces.now }
     ensures { IfOk result (λ r. r ≡ spliced (between from end pieces.now)) }
 {
-    let mut out = Pieces::with_room(alloc, end - from, 64)?;
+    let mut out = spare.take();
     'pieces: for at in from..end {
         push_spliced(&mut out, pieces, at, end)?;
     }
@@ -189,13 +189,13 @@ fn finished(name: PlainText, arity: Option<usize>, size: usize, body: Body) -> O
 }
 
 /// The pieces from a place on, at most their number, without the white space at their ends.
-pub fn stripped_from(alloc: Global, pieces: &Pieces, from: usize) -> Result<Pieces, OutOfMemory>
+pub fn stripped_from(spare: &mut Spare, pieces: &Pieces, from: usize) -> Result<Pieces, OutOfMemory>
     requires { from ≤ length pieces.now }
     ensures { IfOk result (λ r. r ≡ stripped (drop from pieces.now)) }
 {
-    let mut behind = Pieces::with_room(alloc, pieces.len() - from, pieces.size())?;
+    let mut behind = spare.take();
     behind.append_between(pieces, from, pieces.len())?;
-    without_ends(&mut Spare::new(alloc), behind)
+    without_ends(spare, behind)
 }
 
 // A macro whose body these pieces are.
@@ -225,7 +225,7 @@ fn with_body(
     requires inside { from ≤ length pieces.now }
     ensures { IfOk result (λ r. r ≡ with_body (piece_at pieces.now 0).text arity names.now (stripped (drop from pieces.now))) }
 {
-    let behind = stripped_from(alloc, pieces, from)?;
+    let behind = stripped_from(&mut Spare::new(alloc), pieces, from)?;
     with_pieces(alloc, pieces.text(0), arity, names, &behind)
 }
 

@@ -17,7 +17,7 @@ use crate::directive::{Directive, directive_of};
 use crate::flush::{feed, flush};
 use crate::questions::asks;
 use lg_base::{OutOfMemory, RefusalKind, Stop};
-use lg_macro::arguments::stripped;
+use lg_macro::arguments::without_ends;
 use lg_macro::{
     MOST_HELD, Pieces, PlainText, Spare, Table, Work, line_len, mark_in, one_word, push_cut,
     refused, spliced, stripped_from, text_pieces, written,
@@ -146,11 +146,19 @@ impl Expander {
     }
 
     // Reads a directive by the pieces behind its `#`.
-    fn obey(&mut self, alloc: Global, line: u32, body: &Pieces) -> Result<(), Stop>
+    fn obey(
+        &mut self,
+        alloc: Global,
+        spare: &mut Spare,
+        line: u32,
+        body: &Pieces,
+    ) -> Result<(), Stop>
         ensures { CountsAs result self.new (obeys self.old line body.now) }
     {
-        let rest = stripped_from(alloc, body, body.len().min(1))?;
-        self.obeyed(alloc, line, &rest, directive_of(body))
+        let rest = stripped_from(spare, body, body.len().min(1))?;
+        let done = self.obeyed(alloc, line, &rest, directive_of(body));
+        spare.give(rest);
+        done
     }
 
     // Gives the lines that wait, expanded.
@@ -196,6 +204,7 @@ impl Expander {
     fn directed(
         &mut self,
         alloc: Global,
+        spare: &mut Spare,
         text: &Pieces,
         at: usize,
         end: usize,
@@ -207,7 +216,7 @@ impl Expander {
         ensures gives { StepsAs result self.new (directed text.now self.old at end line body.now) }
         ensures end { IfOk result (λ n. n ≡ end) }
     {
-        self.obey(alloc, line, body)?;
+        self.obey(alloc, spare, line, body)?;
         feed(alloc, text, at, end, &mut self.given)?;
         Ok(end)
     }
@@ -229,8 +238,10 @@ impl Expander {
         ensures end { IfOk result (λ n. n ≡ end) }
     {
         self.flush_lines(alloc, spare)?;
-        let body = body_between(alloc, text, sign + 1, end)?;
-        self.directed(alloc, text, at, end, text.line(sign), &body)
+        let body = body_between(spare, text, sign + 1, end)?;
+        let done = self.directed(alloc, spare, text, at, end, text.line(sign), &body);
+        spare.give(body);
+        done
     }
 
     // Reads the line that begins at a place: the place behind it.
@@ -289,7 +300,7 @@ impl Expander {
 
 // The pieces of a directive between two places, white space at their ends taken off.
 fn body_between(
-    alloc: Global,
+    spare: &mut Spare,
     text: &Pieces,
     from: usize,
     end: usize,
@@ -298,8 +309,8 @@ fn body_between(
     requires inside { end ≤ length text.now }
     ensures { IfOk result (λ r. r ≡ stripped (spliced (between from end text.now))) }
 {
-    let body = spliced(alloc, text, from, end)?;
-    stripped(alloc, &body)
+    let body = spliced(spare, text, from, end)?;
+    without_ends(spare, body)
 }
 
 // The pieces of the definition of `__WORDSIZE`.

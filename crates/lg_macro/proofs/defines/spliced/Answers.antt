@@ -3,7 +3,7 @@ use Rattle.lg_macro.proofs.DefineLemmas.{spliced_end}
 use Rattle.lg_macro.proofs.defines.spliced.Goals as goal
 
 pub pieces-init : goal.pieces-init
-pieces-init c = rw c.in_ok-out.ensures refl
+pieces-init c = rw c.take-out.ensures refl
 
 pub pieces-preserved : goal.pieces-preserved
 pieces-preserved c = c.in_ok-push_spliced.ensures ∙ c.pieces.invariant
