@@ -13,7 +13,7 @@ use Rattle.lg_explain.specs.Unknown.{forms_behind, part_behind, rest_behind}
 use Rattle.lg_explain.specs.declared.place.Part.{Part}
 use Rattle.lg_explain.specs.declared.place.Rest.{Rest}
 
--- what a token is, and what comes behind it
+-- what a token is, and what comes after it
 abbrev pub here_of : List ℕ → Token → List Form → Rest → (word before : List ℕ) → Option (List ℕ)
 here_of text t left r word before = misfit left r word before t.kind (text_of text t) t.value
 
@@ -67,7 +67,7 @@ pub at_end : (text : List ℕ) (all : Option (List ℕ)) (tokens : Tokens) (p : 
     → IsLeft text all tokens p left r word before → Gives tokens read behind → ((token : Token) → read ≡ Ok (Some token) → ⊥) → missing left r word ≡ all
 at_end text all tokens p left r word before read behind h gives none = sym (end_at text tokens.0 tokens.1 p left r word before read behind gives none) ∙ h.same
 
--- a token that does not fit is the first one, and behind one that does there is what is left
+-- a token that does not fit is the first one, and after one that does there is what is left
 pub found_here : (text : List ℕ) (all : Option (List ℕ)) (token : Token) (behind : Tokens) (p : Part) (left : List Form) (r : Rest) (word before said : List ℕ)
     → IsNext text all token behind p left r word before → Some said ≡ option_map shown (here_of text token left r word before) → Some said ≡ option_map shown all
 found_here text all token behind p left r word before said h is = by (here_of text token left r word before) is h.same

@@ -9,7 +9,7 @@ use Rattle.lg_lex.specs.declared.token.Token.{Token}
 use Rattle.lg_explain.specs.declared.bad_byte.Gap.{Gap}
 use Rattle.lg_explain.specs.declared.bad_byte.Gap.TheVariants.{Fresh, Blank, Slash, Line, Block, Star, Hash, Found}
 
--- ---- behind the last token: white space, comments and line markers, and then the byte
+-- ---- after the last token: white space, comments and line markers, and then the byte
 -- spaces, tabs and line feeds keep a line fresh, in which a line marker may come
 abbrev pub fresh_space : ℕ → Gap
 fresh_space b = if (b == 10) || ((b == 32) || (b == 9)) then Fresh else Blank
@@ -34,7 +34,7 @@ gap_behind Star b = if b == 47 then Blank else (if b == 42 then Star else Block)
 gap_behind Hash b = if b == 32 then Hash else (if is_ascii_digit b then Line else Found 35)
 gap_behind (Found byte) b = Found byte
 
--- the place behind the last token, from a place on
+-- the place after the last token, from a place on
 abbrev pub end_behind : ℕ → List Token → ℕ
 end_behind place [] = place
 end_behind place (t ∷ more) = end_behind t.end more

@@ -50,7 +50,7 @@ is_misfit form Character text value = not (admits form (operand.Number value))
 is_misfit form Expression text value = not (admits form (operand.Number value))
 is_misfit form kind text value = true
 
--- two results go to two registers: a second one stands directly behind the first
+-- two results go to two registers: a second one comes directly after the first
 abbrev pub is_written : Form → Bool
 is_written Write = true
 is_written Update = true
@@ -59,7 +59,7 @@ is_written form = false
 abbrev pub is_repeated : Form → (before text : List ℕ) → Bool
 is_repeated form before text = is_written form && bytes_eq before text
 
--- ---- a token behind a directive or `name`
+-- ---- a token after a directive or `name`
 abbrev pub number_fits : (word : List ℕ) → ℕ → Bool
 number_fits word value = if bytes_eq word (codes ".data") then nat_le value most_data
     else (if bytes_eq word (codes ".align") then is_data_alignment value else true)
@@ -182,7 +182,7 @@ misfit left r word before kind text value =
 abbrev pub missing : List Form → Rest → (word : List ℕ) → Option (List ℕ)
 missing left r word = if lacks left r then Some (misfit_words left r word (codes "missing: the text ends here")) else None
 
--- the word of the statement at hand behind a token
+-- the word of the statement at hand, after a token
 abbrev pub word_behind : List Form → Rest → (word : List ℕ) → TokenKind → (text : List ℕ) → List ℕ
 word_behind left r word kind text = if belongs left r kind then word else text
 

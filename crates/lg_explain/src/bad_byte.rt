@@ -11,24 +11,24 @@ use crate::line::Shown;
 use lg_lex::Lexer;
 use lg_lex::bytes::behind;
 
-// Where a reading stands behind the last token.
+// Where a reading is, after the last token.
 #[derive(Clone, Copy)]
 enum Gap {
     // At the beginning of a line, but for spaces and tabs.
     Fresh,
     // Within a line.
     Blank,
-    // Behind a slash.
+    // After a slash.
     Slash,
     // In a comment to the end of its line, or a line marker.
     Line,
     // In a comment to the next `*/`.
     Block,
-    // Behind a star there.
+    // After a star there.
     Star,
-    // Behind the first byte of a line marker, and spaces.
+    // After the first byte of a line marker, and spaces.
     Hash,
-    // Behind this byte, which is in none of them.
+    // After this byte, which is in none of them.
     Found(u8),
 }
 
@@ -107,7 +107,7 @@ fn gap_behind(gap: Gap, byte: u8) -> Gap
     }
 }
 
-// The place behind the last token of a text.
+// The place after the last token of a text.
 fn last_end(text: &[u8]) -> usize
     requires { length text.now ≤ 16777216 }
     ensures { result ≡ end_behind 0 (tokens_of text.now).0 }
@@ -127,7 +127,7 @@ fn gap_from(place: usize) -> Gap
     if place == 0 { Gap::Fresh } else { Gap::Blank }
 }
 
-// Where it stands at the end of the text.
+// Where it is at the end of the text.
 fn gap_at(text: &[u8], place: usize) -> Gap
     ensures { result ≡ gap_at text.now place }
 {
@@ -189,7 +189,7 @@ fn byte_words(byte: u8) -> Shown
     Shown::of_row(&[b"'", &[byte], b"' ", cause_of(byte)])
 }
 
-/// Of a text of at most 16,777,216 bytes, the byte behind its last token that begins none, and what it might be, in words as they are shown.
+/// Of a text of at most 16,777,216 bytes, the byte after its last token that begins none, and what it might be, in words as they are shown.
 pub fn bad_byte(text: &[u8]) -> Option<Shown>
     requires { length text.now ≤ 16777216 }
     ensures { result ≡ option_map shown (bad_byte text.now) }

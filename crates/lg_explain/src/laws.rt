@@ -39,7 +39,7 @@ pub fn reasons_hold()
     ensures { ReasonsHold }
 {}
 
-/// A statement that begins with a word, but for `note`, is read from that token and one for each form that counts as left behind it: so the words that a text
+/// A statement that begins with a word, but for `note`, is read from that token and one for each form that counts as left after it: so the words that a text
 /// makes twice are looked for in the statements of the reading.
 pub fn forms_are_taken()
     ensures { FormsAreTaken }

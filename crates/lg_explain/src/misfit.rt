@@ -66,7 +66,7 @@ fn is_repeated(form: Form, before: &[u8], text: &[u8]) -> bool
     is_written(form) && before == text
 }
 
-// ---- a token behind a directive or `name`
+// ---- a token after a directive or `name`
 
 // Whether a number is a power of two from 1 to 4,096.
 fn is_data_alignment(number: u64) -> bool
@@ -270,7 +270,7 @@ fn second_words(before: Form, form: Form) -> &'static [u8]
     }
 }
 
-// What stands between the first two of these places.
+// What is between the first two of these places.
 fn comma(forms: &[Form]) -> &'static [u8]
     ensures { result.now ≡ comma forms.now }
 {
@@ -376,7 +376,7 @@ fn missing(left: &[Form], rest: Rest, word: &[u8]) -> Option<Shown>
     }
 }
 
-// The first token of the statement at hand behind a token.
+// The first token of the statement at hand, after a token.
 fn word_behind<'a>(
     left: &[Form],
     rest: Rest,

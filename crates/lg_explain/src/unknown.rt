@@ -12,7 +12,7 @@ use crate::twice::text_of;
 use lg_lex::{Lexer, TokenKind};
 use lg_node::Form;
 
-// The part in which a token stands.
+// The part in which a token is.
 fn part_words(part: Part) -> &'static [u8]
     ensures { result.now ≡ part_words part }
 {
@@ -47,7 +47,7 @@ fn unknown(part: Part, forms: &[Form], rest: Rest, kind: TokenKind, text: &[u8])
     }
 }
 
-/// The first token of a text of at most 16,777,216 bytes that stands where a statement begins and begins none, as it is shown,
+/// The first token of a text of at most 16,777,216 bytes that is where a statement begins and begins none, as it is shown,
 /// and the part.
 pub fn first_unknown(text: &[u8]) -> Option<Shown>
     requires { length text.now ≤ 16777216 }

@@ -1,6 +1,7 @@
 -- Reading a text.
 use Rattle.std.specs.Prelude.{◌≡◌, ◌⊎◌, ◌<◌, ◌≤◌, ◌+◌, ℕ, List, Option, Result, Ok, Err, length}
 use Rattle.std.specs.Io.KnownBytes.{Consumes}
+use Rattle.lg_command.specs.Commands.{Command, IsCommand}
 use Rattle.lg_io.specs.Counts.{Rose}
 use Rattle.lg_io.specs.NamedTexts.{NamedTexts, Selects}
 use Rattle.lg_run.specs.Refused.{IsTextUnder, most_text}
@@ -29,3 +30,7 @@ ReadsFew first left = (bytes : List ℕ) × Consumes first left bytes × (length
 -- nothing was selected and read, or the text of the name was selected, and so few bytes of it were read
 abbrev pub ReadsFewOf : Option NamedTexts → List ℕ → Option (List ℕ) → Option (List ℕ) → Type 0
 ReadsFewOf held name before left = (left ≡ before) ⊎ ((first : Option (List ℕ)) × Selects held first name × ReadsFew first left)
+
+-- the same where the words ask for a command: nothing was read, or the text of the command's file
+abbrev pub ReadsFewAsked : List (List ℕ) → Option NamedTexts → Option (List ℕ) → Option (List ℕ) → Type 0
+ReadsFewAsked words held before left = (left ≡ before) ⊎ ((c : Command) × IsCommand words c × ReadsFewOf held c.file before left)

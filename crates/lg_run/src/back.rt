@@ -6,6 +6,7 @@ ghost use Rattle.lg_command.specs.declared.command.Mode.TheVariants as modes;
 ghost use Rattle.lg_io.specs.Readings.{IsReadOnce};
 ghost use Rattle.lg_io.specs.SinkChanges.{on_sink};
 ghost use Rattle.lg_run.specs.Changes.{TellsWrites, on_texts};
+ghost use Rattle.lg_run.specs.Reads.{ReadsFewOf};
 ghost use Rattle.lg_run.specs.Refused.{ArgumentsFit, most_text};
 ghost use Rattle.lg_run.specs.Says.{BytesSay};
 ghost use Rattle.lg_run.specs.Work.{ReadDone, TellsNoRead, WorkDone};
@@ -57,6 +58,7 @@ pub fn do_back<T: Texts, O: Sink>(
     requires fits { ArgumentsFit (shown command.now) }
     ensures says { WorkDone (shown command.now) (on_texts T.held T.faults T.sure texts.old texts.new) (on_sink O.taken O.faults out.old out.new) result }
     ensures once { IsReadOnce (T.reading texts.old) (T.reading texts.new) }
+    ensures few { ReadsFewOf (T.held texts.old) command.now.file.now (T.left texts.old) (T.left texts.new) }
 {
     match read_text(alloc, command.file, texts) {
         Ok(read) => do_listing(alloc, command, &read, out),

@@ -11,6 +11,7 @@ ghost use Rattle.lg_run.specs.Explanations.{explained_of};
 ghost use Rattle.lg_run.specs.Lines.{line_of};
 ghost use Rattle.lg_run.specs.Profiles.{table_of};
 ghost use Rattle.lg_run.specs.Calls.{Says};
+ghost use Rattle.lg_run.specs.Reads.{ReadsFewAsked};
 ghost use Rattle.lg_run.specs.Says.{AskForNoFile, ReportSays, lines_of, name_in};
 
 use crate::answer::{Answer, Done};
@@ -114,6 +115,7 @@ fn answer<T: Texts, O: Sink, E: Sink>(
         Says (texts_of words.now.items) texts_change out_change err_change result }
     ensures once { IsReadOnce (T.reading texts.old) (T.reading texts.new) }
     ensures unread { AskForNoFile (texts_of words.now.items) → T.reading texts.new ≡ T.reading texts.old }
+    ensures few { ReadsFewAsked (texts_of words.now.items) (T.held texts.old) (T.left texts.old) (T.left texts.new) }
 {
     match read_words(alloc, words) {
         Ok(command) => {
@@ -136,8 +138,8 @@ fn answer<T: Texts, O: Sink, E: Sink>(
 /// text as a listing, and writes the bytes that it is of; or, with `--mode profile`, runs the code, and then the meaning, and tells how many steps of both
 /// belong to each line; or, with `--mode explain`, runs the meaning as with `mean`, and tells why the text is refused or a step is undefined. What the run
 /// writes, the listing and these bytes go to `out`, and the table of a profile, the statistics, the line of every answer but an end and what explains it to
-/// `err`. All memory is taken before the first step and before the first line. At most one text is selected, once, and it is read from its start on
-/// and not again where a read found its end.
+/// `err`. All memory is taken before the first step and before the first line. At most one text is selected, once, that of the command's
+/// file, and it is read from its start on, not again where a read found its end or failed, and at most 16,777,216 bytes and a piece of 65,536 of it.
 pub fn lightning<T: Texts, O: Sink, E: Sink>(
     alloc: Global,
     words: &Vec<String>,
@@ -155,6 +157,7 @@ pub fn lightning<T: Texts, O: Sink, E: Sink>(
         Causes (texts_of words.now.items) texts_change out_change err_change result }
     ensures once { IsReadOnce (T.reading texts.old) (T.reading texts.new) }
     ensures unread { AskForNoFile (texts_of words.now.items) → T.reading texts.new ≡ T.reading texts.old }
+    ensures few { ReadsFewAsked (texts_of words.now.items) (T.held texts.old) (T.left texts.old) (T.left texts.new) }
 {
     answer(alloc, words, texts, out, err)
 }

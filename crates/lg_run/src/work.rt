@@ -19,6 +19,7 @@ ghost use Rattle.lg_dead.specs.Rewritten.{AreFinal};
 ghost use Rattle.lg_run.specs.Explanations.{ReadExplains, WorkExplains, is_undefined};
 ghost use Rattle.lg_run.specs.ProfileStarts.{RanTells, ReadTold, TextTells, UnitTells, WorkTells};
 ghost use Rattle.lg_run.specs.Profiles.{is_run_end};
+ghost use Rattle.lg_run.specs.Reads.{ReadsFewOf};
 ghost use Rattle.lg_run.specs.Refused.{ArgumentsFit, IsRefusedAccepted, most_text};
 ghost use Rattle.lg_run.specs.Says.{ExpandsFile, ReadsFile, WantsCode};
 ghost use Rattle.lg_run.specs.Work.{RanSays, ReadDone, TellsNoRead, TextDone, UnitDone, WorkDone};
@@ -374,6 +375,7 @@ fn do_file<T: Texts, O: Sink>(
     ensures explains { WorkExplains (shown command.now) (T.held texts.old) result }
     ensures once { IsReadOnce (T.reading texts.old) (T.reading texts.new) }
     ensures unread { (ReadsFile command.now.mode → ArgumentsFit (shown command.now) → ⊥) → T.reading texts.new ≡ T.reading texts.old }
+    ensures few { ReadsFewOf (T.held texts.old) command.now.file.now (T.left texts.old) (T.left texts.new) }
 {
     see_file(command, args);
     match read_text(alloc, command.file, texts) {
@@ -416,6 +418,7 @@ pub fn work<T: Texts, O: Sink>(
     ensures explains { WorkExplains (shown command.now) (T.held texts.old) result }
     ensures once { IsReadOnce (T.reading texts.old) (T.reading texts.new) }
     ensures unread { (ReadsFile command.now.mode → ArgumentsFit (shown command.now) → ⊥) → T.reading texts.new ≡ T.reading texts.old }
+    ensures few { ReadsFewOf (T.held texts.old) command.now.file.now (T.left texts.old) (T.left texts.new) }
 {
     let args = match args_image(alloc, &command.arguments) {
         Ok(args) => args,

@@ -1,4 +1,4 @@
-use Rattle.std.proofs.Common.{Some}
+use Rattle.std.proofs.Common.{Some, inr}
 use Rattle.lg_command.specs.Commands.{shown}
 use Rattle.lg_run.specs.Explanations.{explained_of}
 use Rattle.lg_run.specs.Profiles.{table_of}
@@ -18,3 +18,6 @@ returns-in-Ok-clause-says g c = record {
 
 pub returns-in-Ok-clause-unread : goal.returns-in-Ok-clause-unread
 returns-in-Ok-clause-unread g c none = c.work-worked.ensures.unread (none (shown c.in-Ok.command) c.in-Ok.ensures.command)
+
+pub returns-in-Ok-clause-few : goal.returns-in-Ok-clause-few
+returns-in-Ok-clause-few g c = inr (shown c.in-Ok.command, c.in-Ok.ensures.command, c.work-worked.ensures.few)

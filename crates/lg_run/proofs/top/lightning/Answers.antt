@@ -7,4 +7,5 @@ returns g c = record {
   causes = causes _ _ _ _ _ c.answer.ensures.says;
   once = c.answer.ensures.once;
   unread = c.answer.ensures.unread;
+  few = c.answer.ensures.few;
 }
