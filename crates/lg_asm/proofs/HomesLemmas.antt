@@ -17,7 +17,7 @@ use Rattle.lg_node.proofs.SuccessorLaws.{has_functions}
 use Rattle.lg_meaning.proofs.NodeFacts.{function_found}
 use Rattle.lg_meaning.specs.Steps.{function_here, operand_at, slot}
 use Rattle.lg_carry.specs.Homes.{homes_to, homes_by, homes_of, homes_in}
-use Rattle.lg_asm.specs.Lowered.{stored_homes, reads_home, AreUnreadFrom, FramesStoreFew}
+use Rattle.lg_asm.specs.Lowered.{reads_home, AreUnreadFrom, FramesStoreFew}
 
 pub none-read : (nodes : List Node) (p : ℕ) → 0 ≡ homes_of (slice_range nodes p p)
 none-read nodes p = let e : p - p ≡ 0 = omega arith in subst (λ k. 0 ≡ homes_of (take k (drop p nodes))) (sym e) refl

@@ -1,6 +1,6 @@
 -- The registers that the convention of a target keeps.
 use Rattle.std.proofs.Common.{◌≡◌, ◌≢◌, ◌⊎◌, inl, inr, ℕ, zero, suc, ◌+◌, ◌<◌, Bool, true, false, List, [], ◌∷◌, Option, Some, None, refl, sym, ap, ◌∙◌, subst, arith, ⊎_elim}
-use Rattle.std.specs.Prelude.{◌==◌, ◌%◌, ◌&&◌, ◌||◌, not, nat_eq, nat_lt, slice_get, if◌then◌else◌}
+use Rattle.std.specs.Prelude.{◌==◌, ◌%◌, ◌&&◌, not, nat_eq, nat_lt, slice_get, if◌then◌else◌}
 use Rattle.std.specs.List.{list_any}
 use Rattle.std.proofs.lemmas.Bool.{false_from_ne_true, or_cases}
 use Rattle.lg_base.specs.Conventions.{is_kept, kept_registers, result_register, portable_register, frame_register, stack_register}
@@ -11,11 +11,10 @@ use Rattle.lg_base.specs.declared.flags.Flags.{Flags}
 use Rattle.lg_base.specs.declared.host_name.HostName.{HostName}
 use Rattle.lg_base.specs.declared.target.Target.{Target}
 use Rattle.lg_base.specs.declared.target.Target.TheVariants.{X86_64, Aarch64, Riscv64}
-use Rattle.lg_base.specs.declared.fault.FaultKind.TheVariants as fault
 use Rattle.lg_host.specs.Host.{Host, Gives, Exits, Undefined}
 use Rattle.lg_cpu.specs.HostSteps.{put, clobbered, behind_call, returned, answer_at}
 use Rattle.lg_cpu.specs.States.{CpuState}
-use Rattle.lg_cpu.specs.Steps.{Progress, Goes, EndedWith, Faulted, Effect, Run, after, on_going, faults}
+use Rattle.lg_cpu.specs.Steps.{Progress, Goes, EndedWith, Faulted, Effect, Run, after, on_going}
 use Rattle.lg_cpu.specs.Targets.{effect_of}
 use Rattle.lg_cpu.specs.A64Step as a64
 use Rattle.lg_cpu.specs.RvStep as rv

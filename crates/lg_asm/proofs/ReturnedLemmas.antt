@@ -1,5 +1,5 @@
 -- A run that has ended with control at the return address has returned.
-use Rattle.std.proofs.Common.{◌≡◌, inl, inr, ⊎_elim, ℕ, zero, suc, List, [], Option, Some, None, refl, sym, ap, ◌∙◌, subst}
+use Rattle.std.proofs.Common.{◌≡◌, inl, inr, ⊎_elim, ℕ, zero, suc, List, [], Option, Some, refl, sym, ap, ◌∙◌, subst}
 use Rattle.lg_base.specs.HostNames.{host_by_address}
 use Rattle.lg_base.specs.Layout.{stop_address}
 use Rattle.lg_base.specs.declared.host_name.HostName.{HostName}

@@ -8,6 +8,7 @@ pub mod FewLemmas
 pub mod FinishedLemmas
 pub mod GoodItemLemmas
 pub mod HoleLemmas
+pub mod HomesLemmas
 pub mod LabelLemmas
 pub mod ListLemmas
 pub mod NodeEmissionLemmas

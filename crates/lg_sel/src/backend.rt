@@ -64,8 +64,8 @@ impl<L: Item> ItemList<L> for Items<L> {
 
 /// A target: its items, what they are in the definitions, and what appends those of a node.
 ///
-/// What a target has to prove of its items is `IsBackend` (specs/Backends.antt), which `what_holds` promises. By it `select` and `append_node`, and the loop over
-/// the nodes of a text in lg_asm, are there once for all targets.
+/// What a target has to prove of its items is `IsBackend` (specs/Backends.antt), which `what_holds` promises. By it `select` and `append_node`, and the loop
+/// over the nodes of a text in lg_asm, are there once for all targets.
 pub trait Backend {
     /// An item: an instruction, or one with a hole for a label.
     type Item: Item;

@@ -2,12 +2,13 @@
 
 ghost use Rattle.std.specs.Prelude.{ℕ, Bool, List};
 ghost use Rattle.lg_base.specs.declared.host_name.HostName.{HostName};
+ghost use Rattle.lg_carry.specs.FinalNodes.{Code};
 ghost use Rattle.lg_op.specs.declared.op.BranchSumOp.{BranchSumOp};
 ghost use Rattle.lg_op.specs.declared.operand.Operand.{Operand};
 ghost use Rattle.lg_op.specs.declared.operand.Reg.{Reg};
 ghost use Rattle.lg_carry.specs.Nodes.Leaps.{EntersHosts};
 ghost use Rattle.lg_sel.specs.Control.Control.{Codes, Controls, ControlNodesCarry};
-ghost use Rattle.lg_sel.specs.Control.Prologs.{PrologsLead, PrologsCarry};
+ghost use Rattle.lg_sel.specs.Control.Prologs.{IsHomesOf, PrologsLead, PrologsCarry};
 ghost use Rattle.lg_sel.specs.Control.RegisterLeaps.{RegisterJumpsWalk, RegisterCallsLead, RegisterHostCallsLead, RegisterLeapsCarry, jmpr_node, callr_node, finishr_node};
 ghost use Rattle.lg_sel.specs.Control.Returns.{Returned, ReturnsLead, ReturnsCarry};
 ghost use Rattle.lg_sel.specs.Control.SilentNodes.{SilentNodesCarry};
@@ -137,4 +138,9 @@ pub trait HasControls: Isa {
 /// Each node that branches, jumps, calls or returns, `prolog`, `.align` and each node without code is carried by its code.
 pub fn control_nodes_are_carried<T: HasControls>()
     ensures { (saved : ℕ) → ControlNodesCarry T.rows T.fits saved (T.codes saved) }
+{}
+
+/// A `prolog` that stores 16 homes stores those of every function. So what `select` of a target promises, whose frames have 16, speaks of every text.
+pub fn sixteen_homes_are_all()
+    ensures { (c : Code) (i : ℕ) → IsHomesOf c i 16 }
 {}

@@ -1,5 +1,4 @@
-use Rattle.std.proofs.Common.{◌≡◌, sym, ap, ◌∙◌, arith}
-use Rattle.std.specs.Prelude.{not}
+use Rattle.std.proofs.Common.{sym, ◌∙◌, arith}
 use Rattle.lg_carry.proofs.EntryLemmas.{entry-aligned}
 use Rattle.lg_asm.proofs.EntryOfLemmas.{entry-end, entry-other, entry-by}
 use Rattle.lg_asm.proofs.saves.entry_of.Goals as goal
