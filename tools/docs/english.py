@@ -1,8 +1,9 @@
 #!/usr/bin/env python3
 """Lists house words and long sentences in pages and comments: english.py [--list WORD] [PATH..].
 
-For each word of the table below it prints how often it is used in pages (*.md) and in comments (*.rt, *.antt), beside the English that it stands for, and last how many
-sentences of the pages have more than 35 words. With --list WORD it prints each line with that word; with PATH only these files are read. The counts may only fall.
+For each word of the table below it prints how often it is used in pages (*.md) and in comments (*.rt, *.antt), beside the English word, and last how many sentences
+of the pages have more than 35 words. Names between backquotes do not count. With --list WORD it prints each line with that word, with --list long the long sentences;
+with PATH only these files are read. The counts may only fall.
 """
 import pathlib
 import re
@@ -15,7 +16,7 @@ WORDS = {
     r"stands? (?:at|in|on|as|for|there|beside)": "is, is in, is defined in, corresponds to",
     r"tells?|told": "reports, says",
     r"so many": "n, this many",
-    r"of which": "(split the sentence)",
+    r"of which (?:there|the|none|each|some|one|it|so|at|as|not|only|most|something|all|this|two|few|a|an|node)": "none of which, whose (English order)",
     r"wanted|want of memory": "requested, out of memory",
     r"comes? to": "results in, reaches",
     r"lets? go|let go": "drops, frees",
@@ -64,10 +65,11 @@ def main():
         text = path.read_text()
         is_code = path.suffix != ".md"
         for number, line in comment_lines(path, text):
+            said = re.sub(r"`[^`]*`", "``", line)
             for word in WORDS:
-                for _ in re.finditer(rf"\b(?:{word})\b", line, re.I):
+                for _ in re.finditer(rf"\b(?:{word})\b", said, re.I):
                     found[word][is_code] += 1
-                    if wanted and re.fullmatch(word, wanted, re.I):
+                    if wanted and (wanted == word or re.fullmatch(word, wanted, re.I)):
                         print(f"{path.relative_to(ROOT)}:{number}: {line.strip()}")
         if not is_code:
             long += [(path, it) for it in sentences(text) if len(it.split()) > MOST]
