@@ -48,7 +48,7 @@ def comment_lines(path, text):
 def sentences(text):
     """The sentences of a page, without its tables, headings and blocks of code."""
     lines = [line for _, line in comment_lines(pathlib.Path("page.md"), text)]
-    prose = "\n".join("" if line.startswith(("|", "#", "!")) else line for line in lines)
+    prose = "\n".join("" if line.lstrip().startswith(("|", "#", "!")) else line for line in lines)
     for paragraph in re.split(r"\n\s*\n|\n(?=\s*(?:[-*]|\d+\.) )", prose):
         yield from re.split(r"(?<=[.!?:])\s+(?=[A-Z*`(])", " ".join(paragraph.split()))
 

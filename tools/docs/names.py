@@ -95,7 +95,7 @@ def lost_paths(line, crate):
             yield name
 
 
-pages = [pathlib.Path(it) for it in sys.argv[1:]] or [root / it for it in files if it == "README.md" or it.startswith(("docs/", "examples/")) and it.endswith(".md") or re.fullmatch(r"crates/\w+/(README|AUDIT).md", it)]
+pages = [pathlib.Path(it) for it in sys.argv[1:]] or [root / it for it in files if it == "README.md" or it.startswith(("docs/", "examples/")) and it.endswith(".md") or re.fullmatch(r"crates/\w+/(README|AUDIT|ROWS).md", it)]
 lost = 0
 for page in pages:
     of_crate = page.parent.name if page.parent.parent.name == "crates" else None
