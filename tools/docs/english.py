@@ -2,7 +2,7 @@
 """Lists house words and long sentences in pages and comments: english.py [--list WORD] [PATH..].
 
 For each word of the table below it prints how often it is used in pages (*.md) and in comments (*.rt, *.antt), beside the English word, and last how many sentences
-of the pages have more than 35 words. Names between backquotes do not count. With --list WORD it prints each line with that word, with --list long the long sentences;
+of the pages have more than 35 words. Names between backquotes and names of files do not count. With --list WORD it prints each line with that word, with --list long the long sentences;
 with PATH only these files are read. The counts may only fall.
 """
 import pathlib
@@ -16,7 +16,7 @@ WORDS = {
     r"stands? (?:at|in|on|as|for|there|beside)": "is, is in, is defined in, corresponds to",
     r"tells?|told": "reports, says",
     r"so many": "n, this many",
-    r"of which (?:there|the|none|each|some|one|it|so|at|as|not|only|most|something|all|this|two|few|a|an|node)": "none of which, whose (English order)",
+    r"(?<!none )(?<!each )of which (?:there|the|none|each|some|one|it|so|at|as|not|only|most|something|all|this|two|few|a|an|node)": "none of which, whose (English order)",
     r"wanted|want of memory": "requested, out of memory",
     r"comes? to": "results in, reaches",
     r"lets? go|let go": "drops, frees",
@@ -65,7 +65,7 @@ def main():
         text = path.read_text()
         is_code = path.suffix != ".md"
         for number, line in comment_lines(path, text):
-            said = re.sub(r"`[^`]*`", "``", line)
+            said = re.sub(r"`[^`]*`|[\w/]+\.(?:antt|rt)\b", "``", line)
             for word in WORDS:
                 for _ in re.finditer(rf"\b(?:{word})\b", said, re.I):
                     found[word][is_code] += 1
