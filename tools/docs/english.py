@@ -69,7 +69,7 @@ def main():
             for word in WORDS:
                 for _ in re.finditer(rf"\b(?:{word})\b", said, re.I):
                     found[word][is_code] += 1
-                    if wanted and (wanted == word or re.fullmatch(word, wanted, re.I)):
+                    if wanted and (wanted == word or wanted in word or re.fullmatch(word, wanted, re.I)):
                         print(f"{path.relative_to(ROOT)}:{number}: {line.strip()}")
         if not is_code:
             long += [(path, it) for it in sentences(text) if len(it.split()) > MOST]
@@ -79,7 +79,7 @@ def main():
     if wanted is None:
         print(f"{'pages':>6} {'code':>6}")
         for word, (pages, code) in found.items():
-            plain = re.sub(r"\\b|\(\?:|[()?]", "", word)
+            plain = "of which" if "of which" in word else re.sub(r"\\b|\(\?:|[()?]", "", word)
             print(f"{pages:6} {code:6}  {plain}: {WORDS[word]}")
         print(f"{sum(it[0] for it in found.values()):6} {sum(it[1] for it in found.values()):6}  in all")
         print(f"{len(long):6}         sentences of more than {MOST} words in pages")
