@@ -1,9 +1,10 @@
 #!/usr/bin/env python3
-"""Finds names in the pages that the tree does not have: names.py [PAGE..], by default README.md, docs/, examples/ and each crate's README.md.
+"""Finds names in the pages that the tree does not have: names.py [PAGE..], by default README.md, docs/, examples/ and each crate's README.md and AUDIT.md.
 
-A name is what stands between backquotes and is spelled as names are. A path, with a `/` or an ending, has to end the path of a file or folder; of any other name each part between `::` has to
-be a word of the sources, the data or the tools. In a table of rules and definitions each name of the second column has to stand in
-the file that is named before it. In a crate's README.md and behind a crate's name a path has to be one of that crate. It prints PAGE:LINE: NAME for each that is not found, and ends with 1 where there is one. Not part of the gate.
+A name is what is between backquotes and is spelled as names are. A path, with a `/` or an ending, has to end the path of a file or folder; of any other name each
+part between `::` has to be a word of the sources, the data or the tools. In a table of rules and definitions each name of the second column has to be in the file
+that is named before it. In a crate's pages and after a crate's name a path has to be one of that crate. It prints PAGE:LINE: NAME for each that is not found, and
+ends with 1 where there is one. Not part of the gate.
 """
 import pathlib
 import re
@@ -36,7 +37,7 @@ for name in files:
     words.update(re.findall(r"[A-Za-z0-9_]+", text))
 words.update(pathlib.Path(name).stem for name in files)
 
-# names of the kit, goals that it makes, words that a text is refused for, and what stands for a target's letters in docs/EXTENDING.md
+# names of the kit, goals that it makes, words that a text is refused for, and what is in place of a target's letters in docs/EXTENDING.md
 known = {"ValuesPass", "HasDefaults", "returns-then-low-le32768", "returns-in-267386992", "va_push", "va_start_l", "lg_T"}
 
 
@@ -66,7 +67,7 @@ def words_of(path):
 
 
 def file_of(name, crate):
-    """The file of a name in a row of RULES: `Words`, `lg_base/Words`, `word.rt`, `lg_base/word.rt`."""
+    """The file of a name in a row of rules: `Words`, `lg_base/Words`, `word.rt`, `lg_base/word.rt`."""
     found = re.match(r"(lg_\w+|\w+_program)/(.*)", name)
     crate, rest = found.groups() if found else (crate, name)
     return root / "crates" / crate / ("src/" + rest if rest.endswith(".rt") else f"specs/{rest}.antt")
@@ -96,18 +97,16 @@ def lost_paths(line, crate):
             yield name
 
 
-pages = [pathlib.Path(it) for it in sys.argv[1:]] or [root / it for it in files if it == "README.md" or it.startswith(("docs/", "examples/")) and it.endswith(".md") or re.fullmatch(r"crates/\w+/README.md", it)]
+pages = [pathlib.Path(it) for it in sys.argv[1:]] or [root / it for it in files if it == "README.md" or it.startswith(("docs/", "examples/")) and it.endswith(".md") or re.fullmatch(r"crates/\w+/(README|AUDIT|ROWS).md", it)]
 lost = 0
 for page in pages:
     of_crate = page.parent.name if page.parent.parent.name == "crates" else None
-    named, is_rule = of_crate, False
+    is_rule = False
     for number, line in enumerate(page.read_text().split("\n"), 1):
         missing = [name for name in re.findall(r"`([^`]+)`", line) if not has(name)] + list(lost_paths(line, of_crate))
-        heading = re.match(r"## .*?: (lg_\w+)", line)
-        named = heading.group(1) if heading else named
         is_rule = line.startswith("| ") and (is_rule or line == "| Rule | Definition |") or is_rule and line.startswith("|--")
-        if is_rule and named and not line.startswith("| Rule |") and line.startswith("| "):
-            missing += lost_of_rule(line[2:-2].rsplit(" | ", 1)[1], named)
+        if is_rule and not line.startswith("| Rule |") and line.startswith("| "):
+            missing += lost_of_rule(line[2:-2].rsplit(" | ", 1)[1], of_crate or "")
         for name in missing:
             lost += 1
             print(f"{page}:{number}: {name}")

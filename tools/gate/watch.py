@@ -40,7 +40,7 @@ def kind(pid, words):
         return "edits"
     if "--test" in words or "--crate-checked" in words:
         return "built"
-    # (a process that has not come to be the checker yet is `sh` with its words)
+    # (a process that is not the checker yet is `sh` with its words)
     return "proof" if "build" in words or "check" in words else "built"
 
 

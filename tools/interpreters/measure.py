@@ -1,6 +1,6 @@
 """Times the models of the processors beside the plain C interpreters of this folder, on the code of a text of `tools/speed/texts.py`, a loop without an end.
 
-Usage: python3 tools/interpreters/measure.py LIGHTNING [RUNS], at the top of the repository, where LIGHTNING is the built program, behind
+Usage: python3 tools/interpreters/measure.py LIGHTNING [RUNS], at the top of the repository, where LIGHTNING is the built program, after
     for t in riscv64 aarch64 x86_64; do gcc -O2 -o /tmp/$t tools/interpreters/$t.c; done
 Prints the least time of interleaved runs, as instructions a second, and the ratio."""
 

@@ -67,7 +67,7 @@ int main(int argc, char **argv) {
     if (sized && op != 0x89) F("Decode");
     u32 m = *p, reg = (m >> 3 & 7) | (rex & 4) << 1, rm = (m & 7) | (rex & 1) << 3, digit = m >> 3 & 7, is_reg = m >> 6 == 3;
     u64 next, ea = 0, r;
-    // the length of what stands behind the opcode: ModRM, SIB, displacement
+    // the length of what follows the opcode: ModRM, SIB, displacement
     u32 len = 1;
 #define NEXT(n) do { next = pc + (u64)(p - (code + o)) + (n); if (next - CODE > ncode) F("Decode"); } while (0)
 #define WIDE if (!wide || rex & 2) F("Decode")

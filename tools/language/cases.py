@@ -2,7 +2,7 @@
 """The examples of docs/LANGUAGE.md as cases of lg_test_calls. Says whether crates/lg_test_calls/data/cases/language.txt has exactly them; with --write, writes it.
 
 A block ```tst NAME WORDS is a text, run with these words of the command; ```out NAME STATUS what it writes (without the last line feed where its head says so), and
-```err NAME STATUS the line on the standard error; a status that is not said is 0. A row of a table of instructions has an example that stands in the block ```frame,
+```err NAME STATUS the line on the standard error; a status that is not said is 0. A row of a table of instructions has an example that is put into the block ```frame,
 and what is printed of it; a row of the table of undefined steps a text and the steps before; a row of the table of refusals a text that is refused at line 1.
 A case is a line with its name, its status, how it is run and its words, with tabs between, and then the text, the output and the line, as
 crates/lg_test_calls/src/cases/case.rt says. One that names no mode is run on the three targets and by its meaning, any other on the three targets.

@@ -64,7 +64,7 @@ def read(path):
         if row:
             found.append((int(row[1], 16), bytes.fromhex(row[2]), row[3]))
             code += found[-1][1]
-    assert len(code) == int(count), f"{path}: {count} bytes are told, and {len(code)} listed"
+    assert len(code) == int(count), f"{path}: {count} bytes are announced, and {len(code)} listed"
     return target, found, code
 
 

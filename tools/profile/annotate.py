@@ -4,9 +4,9 @@
     annotate.py TEXT TABLE
 
 TEXT is the text, and TABLE what `lightning --mode profile TEXT` wrote to the standard error: lines `line L steps S instructions I`, and others, which
-are passed over. Each line of the text is printed behind the steps of the meaning that have its number, their share of all in percent, the instructions and
+are passed over. Each line of the text is printed after the steps of the meaning that have its number, their share of all in percent, the instructions and
 host steps of the code that count for it, and their share. A line with a tenth of all instructions or more is marked with `*`, and the hottest with `**`.
-The last line has the sums. Lines of the table that the text does not have are told, with status 1.
+The last line has the sums. Lines of the table that the text does not have are reported, with status 1.
 """
 import re
 import sys
@@ -27,7 +27,7 @@ def read_table(lines):
 
 
 def share(part, whole):
-    """A part in percent of the whole, with one digit behind the point, and nothing where there is none."""
+    """A part in percent of the whole, with one digit after the point, and nothing where there is none."""
     return f"{100 * part / whole:5.1f}%" if part else " " * 6
 
 

@@ -1,13 +1,13 @@
 #!/usr/bin/env python3
 """Prints a text to time `lightning` by: texts.py KIND [SIZE], where SIZE is a number of lines or, of the first three kinds, of bytes, which the text has or some less.
 
-The first three are for the preprocessor: their first line is refused behind it, so that nothing else is done with them. What `--mode list` writes of `swaps`, which
+The first three are for the preprocessor: their first line is refused after it, so that nothing else is done with them. What `--mode list` writes of `swaps`, which
 is much code of few instructions on RV64, is read back by `--mode back`. Not part of the gate.
 
     plain     instructions, in which no macro is named
     calls     calls of a macro with two parameters, whose body names another
-    macros    macros, each in a line of its own, behind which it is named
-    far       a function with a branch over as many additions of a wide number, and two calls of it behind them
+    macros    macros, each in a line of its own, after which it is named
+    far       a function with a branch over as many additions of a wide number, and two calls of it after them
     swaps     as many instructions that turn the bytes of a word
     short     a loop without an end of four instructions
     loop      one over immediates, memory and flags: carries, comparisons, loads and stores of several widths
@@ -33,12 +33,12 @@ bgti again %v2 -5 orr %v1 %v1 %r1 jmpi again epilog
 
 
 def repeated(front, line, size):
-    """The text of a front and as many equal lines behind it as a size has room for."""
+    """The text of a front and as many equal lines after it as a size has room for."""
     return front + line * ((size - len(front)) // len(line))
 
 
 def macros(size):
-    """Macros, each in a line of its own, behind which it is named."""
+    """Macros, each in a line of its own, after which it is named."""
     lines, length = [REFUSED], len(REFUSED)
     while size - length >= 64:
         number = len(lines) - 1
