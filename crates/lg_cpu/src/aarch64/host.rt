@@ -124,7 +124,8 @@ impl Aarch64 {
     // of an instruction, and the compiler would test both again after each step.
     #[inline(never)]
     fn step_elsewhere<O: Sink>(&mut self, out: &mut O, answer: &mut CpuStep)
-        requires { in_code self.old.code self.old.pc ≡ true → (self.old.pc % 4 == 0) ≡ true → front_of (drop (self.old.pc - code_base) self.old.code) ≡ None }
+        requires { in_code self.old.code self.old.pc ≡ true → (self.old.pc % 4 == 0) ≡ true
+            → front_of (drop (self.old.pc - code_base) self.old.code) ≡ None }
         ensures says { StepSays (effect_in (a64_inner self.old)) (a64_inner self.old) (a64_inner self.new)
             (O.taken out.old) (O.taken out.new) (O.faults out.old) (O.faults out.new) answer.new }
         ensures later { O.faults out.old ≤ O.faults out.new }
