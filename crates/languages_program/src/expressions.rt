@@ -1,4 +1,4 @@
-// Expressions. A file of them has a line an expression: the expression, and behind a tab the arguments, with spaces between.
+// Expressions. A file of them has a line an expression: the expression, and after a tab the arguments, with spaces between.
 
 ghost use Rattle.std.specs.Prelude.{◌≡◌, ◌≤◌, length, IfOk};
 ghost use Rattle.lg_asm.specs.Addresses.{AreInside};
@@ -14,7 +14,7 @@ use lg_node::Unit;
 use std::alloc::Global;
 use std::io;
 
-// The unit of the expression that a text is.
+// Returns the unit of the expression that a text is.
 fn unit_in(alloc: Global, text: &str) -> Result<Unit, Trouble>
     ensures { IfOk result (λ u. AreInside u.nodes (length u.image)) }
 {

@@ -17,7 +17,7 @@ const ANYTHING: u64 = 0x5A5A_5A5A_5A5A_5A5A;
 // The most steps. A text that goes on for ever is not waited for.
 const MOST_STEPS: u64 = 1_000_000;
 
-// The words of a run: a name, and the argument.
+// Returns the words of a run: a name, and the argument.
 fn words_of(alloc: Global, argument: &str) -> Result<Vec<String>, OutOfMemory>
     ensures { IfOk result (λ words. 0 < length words.items) }
 {
@@ -27,7 +27,7 @@ fn words_of(alloc: Global, argument: &str) -> Result<Vec<String>, OutOfMemory>
     Ok(words)
 }
 
-// The argument part of a run.
+// Returns the argument part of a run.
 fn args_of(alloc: Global, argument: &str) -> Result<ArgImage, Stop>
     ensures { IfOk result (λ args. length args ≤ most_args) }
 {
@@ -56,8 +56,8 @@ fn processor_for(
     Cpu::new(alloc, code.target(), code.bytes(), image, args, ANYTHING)
 }
 
-/// Runs code with an argument: its last step's answer, `Went` where the most steps were taken. `last` is the processor of the last run of this code, and of this
-/// one behind it.
+/// Runs code with an argument: its last step's answer, `Went` where the most steps were taken. `last` is the processor of the last run of this code, and of
+/// this one after it.
 pub fn run(
     alloc: Global,
     code: &Code,

@@ -1,4 +1,4 @@
-// The stack language: a text is run with some arguments, and of texts that stand apart by empty lines is printed what is wrong with each.
+// The stack language: a text is run with some arguments, and of texts that are apart by empty lines is printed what is wrong with each.
 
 ghost use Rattle.std.specs.Prelude.{◌≡◌, ◌≤◌, length, IfOk};
 ghost use Rattle.lg_asm.specs.Addresses.{AreInside};
@@ -10,7 +10,7 @@ use lg_stack_language::compile;
 use std::alloc::Global;
 use std::io;
 
-// The unit of the program that a text is.
+// Returns the unit of the program that a text is.
 fn unit_in(alloc: Global, text: &str) -> Result<Unit, Trouble>
     ensures { IfOk result (λ u. AreInside u.nodes (length u.image)) }
 {

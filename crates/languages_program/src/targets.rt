@@ -36,7 +36,7 @@ fn print_run(rt: &HostRuntime, argument: &str, out: &[u8], end: CpuStep) -> io::
     }
 }
 
-// Runs code with an argument, and prints what the run comes to.
+// Runs code with an argument, and prints the outcome of the run.
 fn run_one(
     rt: &HostRuntime,
     code: &Code,
@@ -103,8 +103,8 @@ fn run_unit(rt: &HostRuntime, unit: &Unit, arguments: &str) -> io::Result<()>
     Ok(())
 }
 
-/// Makes the code of a unit for each target, runs it with each of the arguments, which have spaces between, and prints what the runs come to; or what is wrong where
-/// there is no unit.
+/// Makes the code of a unit for each target, runs it with each of the arguments, which have spaces between, and prints the outcomes of the runs; or what is
+/// wrong where there is no unit.
 pub fn run_made(rt: &HostRuntime, made: Result<Unit, Trouble>, arguments: &str) -> io::Result<()>
     requires { IfOk made (λ u. AreInside u.nodes (length u.image)) }
 {

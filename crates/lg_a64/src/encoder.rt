@@ -14,7 +14,7 @@ use crate::rows::{BRANCH_IF, CSINC, LDRX, NOP};
 use lg_base::Piece;
 use lg_base::number::to_bits;
 
-/// The bytes of an instruction whose numbers are in its row's ranges: 4 bytes, little-endian.
+/// Returns the bytes of an instruction whose numbers are in its row's ranges: 4 bytes, little-endian.
 pub fn encode(instr: &Instr) -> Piece
     requires { IsInstr instr.now }
     ensures { result ≡ spelling instr.now }

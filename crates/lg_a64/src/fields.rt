@@ -23,7 +23,7 @@ pub(crate) type Shift = Field<22, 1>;
 /// imm16: bits 5 to 20.
 pub(crate) type Imm16 = Field<5, 16>;
 
-/// hw, the quarter of the word that imm16 stands in: bits 21 and 22.
+/// hw, the quarter of the word that imm16 is in: bits 21 and 22.
 pub(crate) type Hw = Field<21, 2>;
 
 /// immr: bits 16 to 21.

@@ -209,7 +209,7 @@ pub enum ReverseOp {
     Rev16,
 }
 
-/// The rows that load or store at a number of accesses behind a register.
+/// The rows that load or store at an offset from a register, counted in accesses.
 #[derive(Clone, Copy, PartialEq, Eq)]
 pub enum ScaledOp {
     /// Load 64 bits.

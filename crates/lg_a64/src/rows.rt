@@ -164,7 +164,7 @@ macro_rules! conds {
 }
 
 impl RegOp {
-    /// The row's word, with 0 in the fields of the operands.
+    /// Returns the row's word, with 0 in the fields of the operands.
     pub(crate) fn word(self) -> u32
         ensures same { result ≡ (reg_row self).word }
         ensures free { (part 0 5 result ≡ 0) × (part 5 5 result ≡ 0) × (part 16 5 result ≡ 0) }
@@ -172,7 +172,7 @@ impl RegOp {
         reg_rows!(word_of, self)
     }
 
-    /// The row's name.
+    /// Returns the row's name.
     pub(crate) fn name(self) -> &'static [u8]
         ensures same { result.now ≡ (reg_row self).name }
         ensures short { length result.now ≤ 16 }
@@ -180,7 +180,7 @@ impl RegOp {
         reg_rows!(name_of, self)
     }
 
-    /// The row with this word.
+    /// Returns the row with this word.
     #[tactic(auto, unfolding(crate::specs::Reading::reg_by_word))]
     pub(crate) fn find(word: u32) -> Option<RegOp>
         ensures { result ≡ reg_by_word word }
@@ -190,7 +190,7 @@ impl RegOp {
 }
 
 impl ImmOp {
-    /// The row's word, with 0 in the fields of the operands.
+    /// Returns the row's word, with 0 in the fields of the operands.
     pub(crate) fn word(self) -> u32
         ensures same { result ≡ (imm_row self).word }
         ensures free { (part 0 5 result ≡ 0) × (part 5 5 result ≡ 0) × (part 10 12 result ≡ 0) × (part 22 1 result ≡ 0) }
@@ -198,7 +198,7 @@ impl ImmOp {
         imm_rows!(word_of, self)
     }
 
-    /// The row's name.
+    /// Returns the row's name.
     pub(crate) fn name(self) -> &'static [u8]
         ensures same { result.now ≡ (imm_row self).name }
         ensures short { length result.now ≤ 16 }
@@ -206,7 +206,7 @@ impl ImmOp {
         imm_rows!(name_of, self)
     }
 
-    /// The row with this word.
+    /// Returns the row with this word.
     #[tactic(auto, unfolding(crate::specs::Reading::imm_by_word))]
     pub(crate) fn find(word: u32) -> Option<ImmOp>
         ensures { result ≡ imm_by_word word }
@@ -216,7 +216,7 @@ impl ImmOp {
 }
 
 impl WideOp {
-    /// The row's word, with 0 in the fields of the operands.
+    /// Returns the row's word, with 0 in the fields of the operands.
     pub(crate) fn word(self) -> u32
         ensures same { result ≡ (wide_row self).word }
         ensures free { (part 0 5 result ≡ 0) × (part 5 16 result ≡ 0) × (part 21 2 result ≡ 0) }
@@ -224,7 +224,7 @@ impl WideOp {
         wide_rows!(word_of, self)
     }
 
-    /// The row's name.
+    /// Returns the row's name.
     pub(crate) fn name(self) -> &'static [u8]
         ensures same { result.now ≡ (wide_row self).name }
         ensures short { length result.now ≤ 16 }
@@ -232,7 +232,7 @@ impl WideOp {
         wide_rows!(name_of, self)
     }
 
-    /// The row with this word.
+    /// Returns the row with this word.
     #[tactic(auto, unfolding(crate::specs::Reading::wide_by_word))]
     pub(crate) fn find(word: u32) -> Option<WideOp>
         ensures { result ≡ wide_by_word word }
@@ -242,7 +242,7 @@ impl WideOp {
 }
 
 impl MulAddOp {
-    /// The row's word, with 0 in the fields of the operands.
+    /// Returns the row's word, with 0 in the fields of the operands.
     pub(crate) fn word(self) -> u32
         ensures same { result ≡ (mul_add_row self).word }
         ensures free { (part 0 5 result ≡ 0) × (part 5 5 result ≡ 0) × (part 10 5 result ≡ 0) × (part 16 5 result ≡ 0) }
@@ -250,7 +250,7 @@ impl MulAddOp {
         mul_add_rows!(word_of, self)
     }
 
-    /// The row's name.
+    /// Returns the row's name.
     pub(crate) fn name(self) -> &'static [u8]
         ensures same { result.now ≡ (mul_add_row self).name }
         ensures short { length result.now ≤ 16 }
@@ -258,7 +258,7 @@ impl MulAddOp {
         mul_add_rows!(name_of, self)
     }
 
-    /// The row with this word.
+    /// Returns the row with this word.
     #[tactic(auto, unfolding(crate::specs::Reading::mul_add_by_word))]
     pub(crate) fn find(word: u32) -> Option<MulAddOp>
         ensures { result ≡ mul_add_by_word word }
@@ -268,7 +268,7 @@ impl MulAddOp {
 }
 
 impl BitfieldOp {
-    /// The row's word, with 0 in the fields of the operands.
+    /// Returns the row's word, with 0 in the fields of the operands.
     pub(crate) fn word(self) -> u32
         ensures same { result ≡ (bitfield_row self).word }
         ensures free { (part 0 5 result ≡ 0) × (part 5 5 result ≡ 0) × (part 10 6 result ≡ 0) × (part 16 6 result ≡ 0) }
@@ -276,7 +276,7 @@ impl BitfieldOp {
         bitfield_rows!(word_of, self)
     }
 
-    /// The row's name.
+    /// Returns the row's name.
     pub(crate) fn name(self) -> &'static [u8]
         ensures same { result.now ≡ (bitfield_row self).name }
         ensures short { length result.now ≤ 16 }
@@ -284,7 +284,7 @@ impl BitfieldOp {
         bitfield_rows!(name_of, self)
     }
 
-    /// The row with this word.
+    /// Returns the row with this word.
     #[tactic(auto, unfolding(crate::specs::Reading::bitfield_by_word))]
     pub(crate) fn find(word: u32) -> Option<BitfieldOp>
         ensures { result ≡ bitfield_by_word word }
@@ -294,7 +294,7 @@ impl BitfieldOp {
 }
 
 impl ReverseOp {
-    /// The row's word, with 0 in the fields of the operands.
+    /// Returns the row's word, with 0 in the fields of the operands.
     pub(crate) fn word(self) -> u32
         ensures same { result ≡ (reverse_row self).word }
         ensures free { (part 0 5 result ≡ 0) × (part 5 5 result ≡ 0) }
@@ -302,7 +302,7 @@ impl ReverseOp {
         reverse_rows!(word_of, self)
     }
 
-    /// The row's name.
+    /// Returns the row's name.
     pub(crate) fn name(self) -> &'static [u8]
         ensures same { result.now ≡ (reverse_row self).name }
         ensures short { length result.now ≤ 16 }
@@ -310,7 +310,7 @@ impl ReverseOp {
         reverse_rows!(name_of, self)
     }
 
-    /// The row with this word.
+    /// Returns the row with this word.
     #[tactic(auto, unfolding(crate::specs::Reading::reverse_by_word))]
     pub(crate) fn find(word: u32) -> Option<ReverseOp>
         ensures { result ≡ reverse_by_word word }
@@ -320,7 +320,7 @@ impl ReverseOp {
 }
 
 impl ScaledOp {
-    /// The row's word, with 0 in the fields of the operands.
+    /// Returns the row's word, with 0 in the fields of the operands.
     pub(crate) fn word(self) -> u32
         ensures same { result ≡ (scaled_row self).word }
         ensures free { (part 0 5 result ≡ 0) × (part 5 5 result ≡ 0) × (part 10 12 result ≡ 0) }
@@ -328,7 +328,7 @@ impl ScaledOp {
         scaled_rows!(word_of, self)
     }
 
-    /// The row's name.
+    /// Returns the row's name.
     pub(crate) fn name(self) -> &'static [u8]
         ensures same { result.now ≡ (scaled_row self).name }
         ensures short { length result.now ≤ 16 }
@@ -336,7 +336,7 @@ impl ScaledOp {
         scaled_rows!(name_of, self)
     }
 
-    /// The row with this word.
+    /// Returns the row with this word.
     #[tactic(auto, unfolding(crate::specs::Reading::scaled_by_word))]
     pub(crate) fn find(word: u32) -> Option<ScaledOp>
         ensures { result ≡ scaled_by_word word }
@@ -346,7 +346,7 @@ impl ScaledOp {
 }
 
 impl UnscaledOp {
-    /// The row's word, with 0 in the fields of the operands.
+    /// Returns the row's word, with 0 in the fields of the operands.
     pub(crate) fn word(self) -> u32
         ensures same { result ≡ (unscaled_row self).word }
         ensures free { (part 0 5 result ≡ 0) × (part 5 5 result ≡ 0) × (part 12 9 result ≡ 0) }
@@ -354,7 +354,7 @@ impl UnscaledOp {
         unscaled_rows!(word_of, self)
     }
 
-    /// The row's name.
+    /// Returns the row's name.
     pub(crate) fn name(self) -> &'static [u8]
         ensures same { result.now ≡ (unscaled_row self).name }
         ensures short { length result.now ≤ 16 }
@@ -362,7 +362,7 @@ impl UnscaledOp {
         unscaled_rows!(name_of, self)
     }
 
-    /// The row with this word.
+    /// Returns the row with this word.
     #[tactic(auto, unfolding(crate::specs::Reading::unscaled_by_word))]
     pub(crate) fn find(word: u32) -> Option<UnscaledOp>
         ensures { result ≡ unscaled_by_word word }
@@ -372,7 +372,7 @@ impl UnscaledOp {
 }
 
 impl BranchOp {
-    /// The row's word, with 0 in the fields of the operands.
+    /// Returns the row's word, with 0 in the fields of the operands.
     pub(crate) fn word(self) -> u32
         ensures same { result ≡ (branch_row self).word }
         ensures free { part 0 26 result ≡ 0 }
@@ -380,7 +380,7 @@ impl BranchOp {
         branch_rows!(word_of, self)
     }
 
-    /// The row's name.
+    /// Returns the row's name.
     pub(crate) fn name(self) -> &'static [u8]
         ensures same { result.now ≡ (branch_row self).name }
         ensures short { length result.now ≤ 16 }
@@ -388,7 +388,7 @@ impl BranchOp {
         branch_rows!(name_of, self)
     }
 
-    /// The row with this word.
+    /// Returns the row with this word.
     #[tactic(auto, unfolding(crate::specs::Reading::branch_by_word))]
     pub(crate) fn find(word: u32) -> Option<BranchOp>
         ensures { result ≡ branch_by_word word }
@@ -398,7 +398,7 @@ impl BranchOp {
 }
 
 impl BranchRegOp {
-    /// The row's word, with 0 in the fields of the operands.
+    /// Returns the row's word, with 0 in the fields of the operands.
     pub(crate) fn word(self) -> u32
         ensures same { result ≡ (branch_reg_row self).word }
         ensures free { part 5 5 result ≡ 0 }
@@ -406,7 +406,7 @@ impl BranchRegOp {
         branch_reg_rows!(word_of, self)
     }
 
-    /// The row's name.
+    /// Returns the row's name.
     pub(crate) fn name(self) -> &'static [u8]
         ensures same { result.now ≡ (branch_reg_row self).name }
         ensures short { length result.now ≤ 16 }
@@ -414,7 +414,7 @@ impl BranchRegOp {
         branch_reg_rows!(name_of, self)
     }
 
-    /// The row with this word.
+    /// Returns the row with this word.
     #[tactic(auto, unfolding(crate::specs::Reading::branch_reg_by_word))]
     pub(crate) fn find(word: u32) -> Option<BranchRegOp>
         ensures { result ≡ branch_reg_by_word word }
@@ -424,7 +424,7 @@ impl BranchRegOp {
 }
 
 impl Cond {
-    /// The condition's number in words: 0 to 13.
+    /// Returns the condition's number in words: 0 to 13.
     pub fn number(self) -> u8
         ensures same { result ≡ (cond_row self).word }
         ensures fits { result < 14 }
@@ -432,7 +432,7 @@ impl Cond {
         conds!(word_of, self)
     }
 
-    /// The condition's name: `eq`.
+    /// Returns the condition's name: `eq`.
     pub fn name(self) -> Piece
         ensures { result ≡ (cond_row self).name }
     {
@@ -446,7 +446,7 @@ impl Cond {
         conds!(name_of, self)
     }
 
-    /// The condition with this number.
+    /// Returns the condition with this number.
     #[tactic(auto, unfolding(crate::specs::Reading::cond_by_number))]
     pub(crate) fn find(number: u32) -> Option<Cond>
         ensures { result ≡ cond_by_number number }
@@ -456,7 +456,7 @@ impl Cond {
 }
 
 impl Instr {
-    /// The row's name, as a listing prints it: `addi`, and with its condition `b.eq`.
+    /// Returns the row's name, as a listing prints it: `addi`, and with its condition `b.eq`.
     pub fn name(&self) -> Piece
         ensures { result ≡ name_of self.now }
     {

@@ -1,4 +1,4 @@
--- Behind each `.align` of a text the code stands at a multiple of its number.
+-- After each `.align` of a text the code is at a multiple of its number.
 use Rattle.std.proofs.Common.{◌≡◌, ⊎_elim, true, false, Some, sym, ap, ◌∙◌, arith}
 use Rattle.std.specs.Prelude.{slice_get, slice_index}
 use Rattle.std.proofs.lemmas.Option.{slice_get_within, get_or_from_slice_get, same_Some}

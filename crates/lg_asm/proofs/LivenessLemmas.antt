@@ -129,7 +129,7 @@ module _ (c : Code) (sets : LiveSets) (are : AreLive c.nodes c.shape sets) where
       (λ (none : (k : ℕ) → t.regs k ≡ None). inr (none r))
       (reaches c.nodes c.shape c.addresses s t n bytes is form here returns e h.0)
 
-  -- behind a call
+  -- after a call
   call_behind : (i : ℕ) (n : Node) (q : Reg) → slice_get c.nodes.nodes i ≡ Some n → way_of n.op ≡ Next → IsLiveBehind c.nodes c.shape q i → (i + 1 < length c.nodes.nodes) × IsLive c.nodes c.shape q (i + 1)
   call_behind i n q here e b =
       let same : b.successor.node ≡ n = same_Some b.successor.node n (sym b.successor.here ∙ here) in

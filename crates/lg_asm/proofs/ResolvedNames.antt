@@ -17,7 +17,7 @@ unnamed places (operand.Number n ∷ xs) e = ap (λ ys. operand.Number n ∷ ys)
 unnamed places (operand.Host h ∷ xs) e = ap (λ ys. operand.Host h ∷ ys) (unnamed places xs e)
 unnamed places (operand.Slot s ∷ xs) e = ap (λ ys. operand.Slot s ∷ ys) (unnamed places xs e)
 
--- operands of which none is a label stay as they are in every node
+-- operands none of which is a label stay as they are in every node
 pub unnamed-operands : (places : List (Option Place)) (o : Op) (xs : List Operand) → list_any is_name xs ≡ false → xs ≡ resolved_operands places o xs
 unnamed-operands places (op.Plain plain.Allocai) xs e = refl
 unnamed-operands places (op.Plain o) xs e = unnamed places xs e

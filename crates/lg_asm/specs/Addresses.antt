@@ -18,7 +18,7 @@ pub record AreMade (places : List (Option Place)) (tags addresses : List ℕ) (c
   pub long : length addresses ≡ count
   pub each : (x : ℕ) (p : Option Place) → x < count → slice_get places x ≡ Some p → slice_index addresses x ≡ address_of p (slice_index tags x)
 
--- the data part has so many bytes, at most 16 MiB, and no data label is bound behind its end
+-- the data part has this many bytes, at most 16 MiB, and no data label is bound after its end
 pub record AreInside (l : LabelledNodes) (image : ℕ) : Type 0 where
   pub small : image ≤ 0x1000000
   pub labels : (x k : ℕ) → IsBound l x (place.Image k) → k ≤ image

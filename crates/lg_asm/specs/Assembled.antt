@@ -40,7 +40,7 @@ use Rattle.std.specs.List.{All}
 use Rattle.lg_asm.specs.Lowered.{ArePlaces, AreOf, AreNodesCoded, HasNoRoomFor}
 use Rattle.lg_asm.specs.NodeChoices.{spills_in}
 
--- the target, the size of the buffer in which the code was made, the bytes, the final nodes with their shape, the registers that are live before and behind
+-- the target, the size of the buffer in which the code was made, the bytes, the final nodes with their shape, the registers that are live before and after
 -- each, the places of the nodes and of the end, the addresses of the labels, the index of the text's node from which each comes, and how many registers are
 -- saved for temporaries
 pub record Assembled : Type 0 where
@@ -62,7 +62,7 @@ pub record ArePushed (nodes : List Node) (xs : List ℕ) (count : ℕ) : Type 0 
   pub few : (i : ℕ) → i < count → slice_index xs i ≤ 16
 
 -- the nodes are accepted and tidy, none of them can be folded, and none but a `movr` is a dead definition; each comes from a node of the text, in their
--- order; they stand at their places, between which are their bytes; a label that is bound at a node has the address of its place
+-- order; they are at their places, between which are their bytes; a label that is bound at a node has the address of its place
 pub record IsCode (c : Assembled) : Type 0 where
   pub shape_is : IsShapeOf c.nodes c.shape
   pub tidy : IsTidy c.nodes
@@ -95,8 +95,8 @@ CodeAgrees =
     (c : Assembled) (unit : TextUnit) (shape : TextShape) → IsCode c → ComesFrom unit.nodes shape c → AreBytes unit.image
     → length unit.image ≤ 0x1000000 → Agrees c.bytes c.labels unit c.target
 
--- so does its run on a processor whose bytes below the stack pointer and its zone change in any way behind each instruction, as the handlers of signals
--- change them that run on the code's own stack
+-- so does its run on a processor whose bytes below the stack pointer and its zone change in any way after each instruction, as the handlers of signals change
+-- them that run on the code's own stack
 abbrev pub CodeWithstands : Type 0
 CodeWithstands =
     (c : Assembled) (unit : TextUnit) (shape : TextShape) → IsCode c → ComesFrom unit.nodes shape c → AreBytes unit.image → length unit.image ≤ 0x1000000
@@ -113,7 +113,7 @@ pub record MayStart (image args : List ℕ) (trash : ℕ) : Type 0 where
   pub args_few : length args ≤ most_args
   pub word : trash < 2 ^ 64
 
--- the processor at the start of the code of an accepted text stands for the meaning at its start, whatever is live
+-- the processor at the start of the code of an accepted text corresponds to the meaning at its start, whatever is live
 abbrev pub StartStands : Type 0
 StartStands =
     (target : Target) (c : Code) (code image args : List ℕ) (trash : ℕ) (live : Frame → ℕ → Bool) (S : ℕ → Bool) → MayStart image args trash
@@ -121,7 +121,7 @@ StartStands =
     → c.place 0 ≡ code_base → entry_at c.nodes 0 ≡ c.entry → (start_of target image args trash).registers ≡ c.outer
     → Stands (processor_of target code trash) c live (start_state image args) [] (run_from target image args trash) S
 
--- behind each `.align` of the text the code stands at a multiple of its number
+-- after each `.align` of the text the code is at a multiple of its number
 abbrev pub AlignsStand : Type 0
 AlignsStand =
     (c : Assembled) (l : LabelledNodes) (i number : ℕ) (node : Node) → IsCode c → KeepsOthers is_droppable l c.origin
@@ -130,7 +130,7 @@ AlignsStand =
     → (k : ℕ) × (slice_get c.origin k ≡ Some i) × (slice_index c.places (k + 1) % number ≡ 0)
 
 -- ---- refusals
--- a text has no room in a size: at one of its final nodes fewer than 256 bytes were free behind the code of those before
+-- a text has no room in a size: at one of its final nodes fewer than 256 bytes were free after the code of those before
 pub record HasNoRoom (target : Target) (l : LabelledNodes) (size : ℕ) : Type 0 where
   pub nodes : LabelledNodes
   pub shape : TextShape

@@ -61,7 +61,7 @@ run_of q = record { state = q; progress = Goes; out = [] }
 abbrev pub StartsAreCalled : Type 0
 StartsAreCalled = (target : Target) (image args : List ℕ) (trash : ℕ) → MayStart image args trash → IsCalled target image args stack_end (start_of target image args trash)
 
--- a processor that is called stands for the portable meaning at its start, whatever is live, with what its registers hold to be kept
+-- a processor that is called corresponds to the portable meaning at its start, whatever is live, with what its registers hold to be kept
 abbrev pub CalledStand : Type 0
 CalledStand =
     (target : Target) (c : Code) (code image args : List ℕ) (sp trash : ℕ) (live : Frame → ℕ → Bool) (S : ℕ → Bool) (q : CpuState)
@@ -85,8 +85,8 @@ pub record EndsAsMeant (target : Target) (sp : ℕ) (q : CpuState) (r : mean.Run
   pub returned : (answer : Option ℕ) → mean.ending_of r ≡ Some (Left answer) → HasReturned target sp q answer p.state
   pub exited : (status : ℕ) → mean.ending_of r ≡ Some (Exited status) → (name : HostName) × (host_by_address p.state.pc ≡ Some name)
 
--- so the processor tells a return: where the run has ended and control is at the stop address, the meaning has returned too after some number of steps, or it
--- has become undefined
+-- so the processor recognizes a return: where the run has ended and control is at the stop address, the meaning has returned too after some number of steps,
+-- or it has become undefined
 abbrev pub ReturnsAsMeant : Machine mean.Run → Machine (Run CpuState) → Target → ℕ → CpuState → mean.Run → Type 0
 ReturnsAsMeant meaning processor target sp q r =
     (n status : ℕ) → processor.status (iter processor.step n (run_of q)) ≡ Ended status → (iter processor.step n (run_of q)).state.pc ≡ stop_address
@@ -97,8 +97,9 @@ ReturnsAsMeant meaning processor target sp q r =
 abbrev pub meaning_called : TextUnit → ℕ → List ℕ → mean.Run
 meaning_called unit sp args = mean.run_at (start_state_at sp unit.image args) []
 
--- the run of the code from a state agrees with the portable meaning over these addresses of the labels, keeps pace with it, with its memory, and ends with its
--- memory and its result, as a function of the convention does; and so it writes and ends whatever changes below the stack pointer and its zone behind any instruction
+-- the run of the code from a state agrees with the portable meaning over these addresses of the labels, keeps pace with it, with its memory, and ends with
+-- its memory and its result, as a function of the convention does; and so it writes and ends whatever changes below the stack pointer and its zone after any
+-- instruction
 pub record AgreesFrom (code addresses : List ℕ) (unit : TextUnit) (target : Target) (args : List ℕ) (sp trash : ℕ) (q : CpuState) : Type 0 where
   pub runs : (n : ℕ) → AgreesAt (meaning_of unit addresses) (machine_of target code trash) (length unit.nodes.nodes) (meaning_called unit sp args) (run_of q) n
   pub paces : KeepsPace (meaning_of unit addresses) (machine_of target code trash) HasItsMemory (meaning_called unit sp args) (run_of q)

@@ -1,4 +1,4 @@
--- The registers of the temporaries of nodes, by the registers that are live behind them.
+-- The registers of the temporaries of nodes, by the registers that are live after them.
 use Rattle.std.specs.Prelude.{ℕ, zero, suc, ◌+◌, Bool, true, false, List, Option, Some, None, slice_get, slice_index_or}
 use Rattle.std.specs.Option.{option_and_then}
 use Rattle.lg_base.specs.declared.target.Target.{Target}
@@ -19,7 +19,7 @@ use Rattle.lg_temp.specs.declared.choice.Choice.{Choice}
 use Rattle.lg_temp.specs.declared.choice.Choice.TheVariants.{Spill}
 use Rattle.lg_temp.specs.declared.choice.Need.{Need}
 
--- the set of the registers that are live behind a node; a node that is not there has none
+-- the set of the registers that are live after a node; a node that is not there has none
 abbrev pub set_behind : LiveSets → ℕ → RegSet
 set_behind sets i = slice_index_or sets.behind i (record { 0 = 0 })
 
@@ -32,7 +32,7 @@ needs_on X86_64 o = x86.needs o
 needs_on Aarch64 o = a64.needs o
 needs_on Riscv64 o = rv.needs o
 
--- the choices for the needs of a node behind which these registers are live and before which so many arguments are pushed, which are staged there
+-- the choices for the needs of a node after which these registers are live and before which this many arguments are pushed, which are staged there
 abbrev pub node_choices : Target → (Reg → Bool) → ℕ → Node → Option (List Choice)
 node_choices target live count n = choices_of (around target n live (first_arguments count)) (needs_on target n.op)
 

@@ -17,7 +17,7 @@ use lg_sel::choices_for;
 use lg_temp::{Choice, Choices, Needs};
 use std::alloc::Global;
 
-/// The registers that are live behind a node.
+/// Returns the registers that are live after a node.
 pub(crate) fn set_behind(live: &Live, index: u32) -> RegSet
     requires { index < length live.now.behind }
     ensures { result ≡ set_behind live.now index }
@@ -36,7 +36,7 @@ fn needs(target: Target, node: &Node) -> Needs
     }
 }
 
-/// The choices of a node behind which these registers are live and before which so many arguments are pushed.
+/// Returns the choices of a node after which these registers are live and before which this many arguments are pushed.
 pub(crate) fn node_choices(target: Target, node: &Node, live_after: RegSet, passed: u32) -> Choices
     requires { passed ≤ 16 }
     ensures { node_choices target (has live_after) passed node.now ≡ Some result }
@@ -50,7 +50,7 @@ pub(crate) fn node_choices(target: Target, node: &Node, live_after: RegSet, pass
     )
 }
 
-// How many of these choices are saved.
+// Returns how many of these choices are saved.
 fn spills(choices: &[Choice]) -> u32
     requires { length choices.now ≤ 3 }
     ensures { result ≡ count_by is_spill choices.now }
@@ -61,7 +61,7 @@ fn spills(choices: &[Choice]) -> u32
         .count() as u32
 }
 
-// How many registers are saved for the temporaries of a node, before which so many arguments are pushed.
+// Returns how many registers are saved for the temporaries of a node, before which this many arguments are pushed.
 #[inline(never)]
 fn saved_by(nodes: &NodeList, live: &Live, target: Target, index: u32, passed: u32) -> u32
     requires index { index < length nodes.now.nodes }

@@ -27,7 +27,7 @@ fn homes_by(node: &Node) -> u32
     }
 }
 
-// The larger of two numbers.
+// Returns the larger of two numbers.
 fn larger(a: u32, b: u32) -> u32
     ensures { result ≡ max a b }
 {
@@ -48,8 +48,8 @@ fn homes_of(list: &NodeList, first: u32, last: u32) -> u32
     homes
 }
 
-/// How many homes the code of a node stores: at a `prolog` those that its function reads, so that each function's nodes are seen once, and none at other
-/// nodes. The shape is that of the nodes.
+/// Returns how many homes the code of a node stores: at a `prolog` those that its function reads, so that each function's nodes are seen once, and none at
+/// other nodes. The shape is that of the nodes.
 pub(crate) fn stored_homes(list: &NodeList, shape: &Shape, index: u32) -> u32
     requires shape { IsShapeOf list.now shape.now }
     requires index { index < length list.now.nodes }

@@ -4,7 +4,7 @@ ghost use Rattle.lg_asm.specs.CarriedLiveness.{LiveSetsAreLiveness, AllIsLivenes
 
 use lg_meaning::laws::steps_reach_successors;
 
-/// The registers that are live before and behind the nodes of an accepted text are those that carrying asks for.
+/// The registers that are live before and after the nodes of an accepted text are those that carrying asks for.
 pub fn live_sets_are_liveness()
     ensures { LiveSetsAreLiveness }
 {

@@ -46,8 +46,8 @@ pub(crate) fn see_slice(bytes: &[u8])
     let _count = bytes.len();
 }
 
-// How many bytes a buffer of a size has room for: no more than so many nodes can have, and as many more as one may have, so that a large size
-// takes no more memory or time than they do.
+// Returns how many bytes a buffer of a size has room for: no more than this many nodes can have, and as many more as one may have, so that a large size takes
+// no more memory or time than they do.
 fn room_for(size: u32, nodes: u32) -> u32
     ensures within { result ≤ size }
     ensures enough { result < size → 256 * nodes + 256 ≤ result }
@@ -60,8 +60,8 @@ fn room_for(size: u32, nodes: u32) -> u32
     }
 }
 
-/// The bytes of a text in a buffer of a size. They are refused with CodeFull only where at some node fewer than 256 bytes were free behind
-/// those of the nodes before it.
+/// Returns the bytes of a text in a buffer of a size. They are refused with CodeFull only where at some node fewer than 256 bytes were free after those of
+/// the nodes before it.
 pub(crate) fn text_bytes(
     alloc: Global,
     nodes: &NodeList,
@@ -116,7 +116,7 @@ pub(crate) struct Parts {
     pub(crate) counts: Counts,
 }
 
-// The addresses of the labels that lie at these places of the code, and the counts of the nodes.
+// Returns the addresses of the labels that lie at these places of the code, and the counts of the nodes.
 fn tables(
     alloc: Global,
     nodes: &NodeList,
@@ -136,7 +136,7 @@ fn tables(
     Ok((labels, counts))
 }
 
-/// The parts of the code of final nodes of this shape, in at most so many bytes. They are refused as `text_bytes` refuses them.
+/// Returns the parts of the code of final nodes of this shape, in at most this many bytes. They are refused as `text_bytes` refuses them.
 pub(crate) fn parts_of(
     alloc: Global,
     nodes: &NodeList,

@@ -26,7 +26,7 @@ fn saves_for(live: RegSet) -> u32
     }
 }
 
-// Where these are live behind a node: at the return of a call.
+// Where these are live after a node: at the return of a call.
 fn saves_by(node: &Node, live: RegSet) -> u32
     ensures value { result ≡ saves_by (Some node.now) live }
     ensures few { result ≤ 3 }
@@ -37,14 +37,14 @@ fn saves_by(node: &Node, live: RegSet) -> u32
     }
 }
 
-// The larger of two numbers.
+// Returns the larger of two numbers.
 fn larger(a: u32, b: u32) -> u32
     ensures { result ≡ max a b }
 {
     if a < b { b } else { a }
 }
 
-/// How many of V0, V1 and V2 the frames of a text save: up to the last one that is live at the return of a call. `live` has a set for each node.
+/// Returns how many of V0, V1 and V2 the frames of a text save: up to the last one that is live at the return of a call. `live` has a set for each node.
 pub(crate) fn frame_saves(nodes: &NodeList, live: &Live) -> u32
     requires { length live.now.behind ≡ length nodes.now.nodes }
     ensures { result ≡ frame_saves nodes.now.nodes live.now }
@@ -57,7 +57,7 @@ pub(crate) fn frame_saves(nodes: &NodeList, live: &Live) -> u32
     saves
 }
 
-// The node of the label to which a `jmpi` leads.
+// Returns the node of the label to which a `jmpi` leads.
 fn target_of(nodes: &NodeList, node: &Node) -> u32
     ensures { result ≡ node_of_label nodes.now.places (operand_at node.now 0) }
 {
@@ -74,21 +74,21 @@ fn target_of(nodes: &NodeList, node: &Node) -> u32
     }
 }
 
-// Whether an operation is `.align`.
+// Returns whether an operation is `.align`.
 fn is_align(op: Op) -> bool
     ensures { result ≡ is_align op }
 {
     matches!(op, Op::Plain(PlainOp::Align))
 }
 
-// Whether it is a `jmpi`.
+// Returns whether it is a `jmpi`.
 fn is_jump(op: Op) -> bool
     ensures { result ≡ is_jump op }
 {
     matches!(op, Op::Control(ControlOp::Jmp, LastOperand::Immediate))
 }
 
-/// The first node of the function with which a run begins: the first function, or that to which a `jmpi` before every function leads.
+/// Returns the first node of the function with which a run begins: the first function, or that to which a `jmpi` before every function leads.
 pub(crate) fn entry_of(nodes: &NodeList) -> u32
     ensures { result ≡ entry_at nodes.now 0 }
 {
@@ -105,7 +105,7 @@ pub(crate) fn entry_of(nodes: &NodeList) -> u32
     nodes.len()
 }
 
-/// How many of V0, V1 and V2 the frames of the function save in which a node stands: so many, and all three where a run begins with it.
+/// Returns how many of V0, V1 and V2 the frames of the function save in which a node stands: this many, and all three where a run begins with it.
 pub(crate) fn function_saves(shape: &Shape, index: u32, entry: u32, saved: u32) -> u32
     ensures { result ≡ saves_for_function entry saved (function_here shape.now.functions index) }
 {

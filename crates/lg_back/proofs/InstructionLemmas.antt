@@ -76,7 +76,7 @@ spelling-bytes (instruction.Riscv64 i) t of = four-bytes (rv_spelling.word_of i)
 regroup : (a b c d more : List ℕ) → (a ++ b ++ c ++ d) ++ more ≡ a ++ (b ++ (c ++ (d ++ more)))
 regroup a b c d more = simp append_assoc
 
--- the digits behind the address are those of the instruction's bytes
+-- the digits after the address are those of the instruction's bytes
 pub bytes-in-line : (t : Target) (at : ℕ) (i : Instruction) (text more : List ℕ) → IsOf t i → text ≡ instruction_line at i ++ more → hex_front (drop 10 text) ≡ spelling i
 bytes-in-line t at i text more of e =
     ap (λ x. hex_front (drop 10 x)) e ∙ ap hex_front (regroup (hex (spelling i)) (codes "  ") (text_of at i) (codes "\n") more) ∙ hex_front-again (spelling i) _ (spelling-bytes i t of)

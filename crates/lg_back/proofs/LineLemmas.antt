@@ -91,7 +91,7 @@ prefix-step : (b : Bool) (c : ℕ) (cs us : List ℕ) → cs ≡ us ++ drop (len
 prefix-step true c cs us e = refl
 prefix-step false c cs us e = ap (λ t. c ∷ t) e
 
--- what stands in front of a byte stands in front
+-- what is in front of a byte is in front
 until-prefix : (byte : ℕ) (xs : List ℕ) → xs ≡ until byte xs ++ drop (length (until byte xs)) xs
 until-prefix byte [] = refl
 until-prefix byte (c ∷ cs) = prefix-step (c == byte) c cs (until byte cs) (until-prefix byte cs)

@@ -99,7 +99,7 @@ parse-one t at text (x ∷ xs) (y ∷ ys) more rest a b e f m r =
 head-of : (text : List ℕ) (t : Target) (n : ℕ) (lines : List Entry) (rest : List ℕ) → HasLines text t n lines rest → HasHead text t n
 head-of text t n lines rest h = record { rest = rendered code_base lines ++ rest; text_is = h.text_is; small = h.small }
 
--- a text that is told up to where no line begins is told once
+-- a text that is shown up to where no line begins is shown once
 pub record AreOne (t u : Target) (n m : ℕ) (es fs : List Entry) (more rest : List ℕ) : Type 0 where
   pub target : t ≡ u
   pub number : n ≡ m

@@ -17,7 +17,7 @@ use Rattle.lg_node.specs.Nodes.{is_word}
 use Rattle.lg_list.specs.Texts.{decimal}
 use Rattle.lg_back.specs.Words.{until, is_free, first_word, second_word}
 
--- ---- what stands in front of a byte
+-- ---- what is in front of a byte
 
 until-step : (b : Bool) (c : ℕ) (xs ys : List ℕ) (f : Bool) → (if b then false else f) ≡ true → (f ≡ true → xs ≡ ys) → (if b then [] else (c ∷ xs)) ≡ c ∷ ys
 until-step true c xs ys f e h = cc
@@ -56,7 +56,7 @@ decimal-value n small = (decimal_is_IsNumeral n small).1
 pub decimal-digits : (n : ℕ) → n < 2 ^ 64 → AllDigits 10 (decimal n)
 decimal-digits n small = (decimal_is_IsNumeral n small).0.1
 
--- so many digits of a number are no more than it
+-- this many digits of a number are no more than it
 pub digits-below : (ds : List ℕ) (i n : ℕ) → n < 2 ^ 64 → ds ≡ decimal n → digits_value 10 (take i ds) ≤ n
 digits-below ds i n small e =
     let most = digits_value-take-le 10 ds i (omega arith) in
@@ -115,7 +115,7 @@ word-begins (b ∷ bs) more rest e f =
 
 -- ---- a line of two words
 
--- what stands behind a word and the byte that ends it
+-- what is after a word and the byte that ends it
 behind-word : (byte : ℕ) (xs more : List ℕ) → drop (length xs + 1) (xs ++ byte ∷ more) ≡ more
 behind-word byte [] more = refl
 behind-word byte (x ∷ xs) more = let e : length (x ∷ xs) + 1 ≡ suc (length xs + 1) = omega arith in ap (λ n. drop n (x ∷ (xs ++ byte ∷ more))) e ∙ behind-word byte xs more

@@ -13,19 +13,19 @@ use Rattle.lg_back.specs.Refused.{IsBadListing}
 abbrev pub bad_listing : ℕ → Refusal
 bad_listing line = record { kind = BadListing; line = line }
 
--- a text is a listing of what is answered, or it is none and the line to blame is named; where memory was wanted nothing is said
+-- a text is a listing of what is answered, or it is none and the line to blame is named; where memory ran out nothing is said
 abbrev pub ReadsBack : List ℕ → Result Back Stop → Type 0
 ReadsBack text (Ok back) = IsBack text back.target back.bytes.items
 ReadsBack text (Err OutOfMemory) = Unit {0}
 ReadsBack text (Err (Refused refusal)) = (refusal.kind ≡ BadListing) × IsBadListing text refusal.line
 
--- this target and these bytes are answered, or memory was wanted
+-- this target and these bytes are answered, or memory ran out
 abbrev pub GivesBack : Result Back Stop → Target → List ℕ → Type 0
 GivesBack (Ok back) t bytes = (back.target ≡ t) × (back.bytes.items ≡ bytes)
 GivesBack (Err OutOfMemory) t bytes = Unit {0}
 GivesBack (Err (Refused refusal)) t bytes = ⊥
 
--- the text is refused with this line, or memory was wanted
+-- the text is refused with this line, or memory ran out
 abbrev pub IsRefusedAt : Result Back Stop → ℕ → Type 0
 IsRefusedAt (Ok back) line = ⊥
 IsRefusedAt (Err OutOfMemory) line = Unit {0}

@@ -16,7 +16,7 @@ pub record HasHead (text : List ℕ) (t : Target) (count : ℕ) : Type 0 where
   pub text_is : text ≡ first_line t count ++ rest
   pub small : count ≤ most_code
 
--- a text begins with a line that may stand behind the first of a listing, at an address
+-- a text begins with a line that may be after the first of a listing, at an address
 pub record HasLine (t : Target) (at : ℕ) (text : List ℕ) (e : Entry) : Type 0 where
   pub form : IsEntry t e
   pub rest : List ℕ
@@ -26,24 +26,24 @@ pub record HasLine (t : Target) (at : ℕ) (text : List ℕ) (e : Entry) : Type 
 abbrev pub HasNoLine : Target → ℕ → List ℕ → Type 0
 HasNoLine t at text = (e : Entry) → ¬ HasLine t at text e
 
--- a text begins with the line of a node, which is so long on any target and at any address
+-- a text begins with the line of a node, which has this length on any target and at any address
 abbrev pub HasNodeLine : List ℕ → ℕ → Type 0
 HasNodeLine text len = (line : ℕ) × (op : Op) × ((t : Target) (at : ℕ) → HasLine t at text (Node line op)) × (len ≡ length (node_line line op))
 
--- a text begins with the line of a label at an address, which is so long on any target
+-- a text begins with the line of a label at an address, which has this length on any target
 abbrev pub HasLabelLine : ℕ → List ℕ → ℕ → Type 0
 HasLabelLine at text len = (word : List ℕ) × ((t : Target) → HasLine t at text (Label word)) × (len ≡ length (label_line at word))
 
--- a text begins with the line of an instruction at an address, which is so long and stands for these bytes
+-- a text begins with the line of an instruction at an address, which has this length and denotes these bytes
 abbrev pub HasCodeLine : Target → ℕ → List ℕ → List ℕ → ℕ → Type 0
 HasCodeLine t at text bytes len = (i : Instruction) × HasLine t at text (Code i) × (bytes ≡ spelling i) × (len ≡ length (instruction_line at i))
 
--- a text begins with a first line and these lines behind it, and this is the rest
+-- a text begins with a first line and these lines after it, and this is the rest
 pub record HasLines (text : List ℕ) (t : Target) (count : ℕ) (lines : List Entry) (rest : List ℕ) : Type 0 where
   pub form : All (IsEntry t) lines
   pub text_is : text ≡ first_line t count ++ (rendered code_base lines ++ rest)
   pub small : count ≤ most_code
 
--- the address of the line behind these
+-- the address of the line after these
 abbrev pub address_behind : List Entry → ℕ
 address_behind lines = code_base + length (joined lines)

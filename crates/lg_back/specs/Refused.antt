@@ -9,7 +9,7 @@ pub record HasNoHead (text : List ℕ) (line : ℕ) : Type 0 where
   pub none : (t : Target) (count : ℕ) → ¬ HasHead text t count
   pub line_is : line ≡ 1
 
--- behind its first line and so many of the form stands something else
+-- after its first line and this many of the form stands something else
 pub record HasBadLine (text : List ℕ) (line : ℕ) : Type 0 where
   pub t : Target
   pub count : ℕ

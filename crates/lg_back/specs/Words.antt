@@ -1,7 +1,7 @@
--- The words of a line, told by what stands behind them.
+-- The words of a line, decided by what is after them.
 use Rattle.std.specs.Prelude.{ℕ, ◌+◌, ◌==◌, Bool, true, false, if◌then◌else◌, List, [], ◌∷◌, length, drop}
 
--- what stands in front of the first such byte, or all where there is none
+-- what is in front of the first such byte, or all where there is none
 abbrev pub until : ℕ → List ℕ → List ℕ
 until byte [] = []
 until byte (c ∷ cs) = if c == byte then [] else (c ∷ until byte cs)

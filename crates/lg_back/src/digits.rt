@@ -7,7 +7,7 @@ ghost use Rattle.lg_back.specs.Digits.{digit_value, byte_value, hex_front};
 
 use lg_base::Piece;
 
-/// What stands behind so many bytes of a text: nothing where it has fewer.
+/// What is after this many bytes of a text: nothing where it has fewer.
 pub fn behind(text: &[u8], count: usize) -> &[u8]
     ensures { result.now ≡ drop count text.now }
 {
@@ -18,7 +18,7 @@ pub fn behind(text: &[u8], count: usize) -> &[u8]
     }
 }
 
-/// What stands in front of the first such byte, or the whole text where there is none.
+/// What is in front of the first such byte, or the whole text where there is none.
 pub fn until(text: &[u8], byte: u8) -> &[u8]
     ensures { result.now ≡ until byte text.now }
 {
@@ -29,7 +29,7 @@ pub fn until(text: &[u8], byte: u8) -> &[u8]
     &text[..end]
 }
 
-/// The two words of a line `; FIRST SECOND`. What is answered of other lines is what stands at these places.
+/// Returns the two words of a line `; FIRST SECOND`. What is answered of other lines is what is at these places.
 pub fn comment_words(text: &[u8]) -> (&[u8], &[u8])
     ensures first { result.0.now ≡ first_word text.now }
     ensures second { result.1.now ≡ second_word text.now }
@@ -40,7 +40,7 @@ pub fn comment_words(text: &[u8]) -> (&[u8], &[u8])
     (first, second)
 }
 
-/// The number below 2^32 that a text is in decimal digits. What is answered of other texts is not said.
+/// Returns the number below 2^32 that a text is in decimal digits. What is answered of other texts is not said.
 pub fn read_decimal(text: &[u8]) -> Option<u32>
     ensures { (n : ℕ) → n < 2 ^ 32 → text.now ≡ decimal n → result ≡ Some n }
 {
@@ -61,7 +61,7 @@ pub fn read_decimal(text: &[u8]) -> Option<u32>
     }
 }
 
-// The value of a lower hexadecimal digit.
+// Returns the value of a lower hexadecimal digit.
 fn digit_value(code: u8) -> Option<u8>
     ensures value { result ≡ digit_value code }
     ensures low { IfSome result (λ v. v < 16) }
@@ -73,7 +73,7 @@ fn digit_value(code: u8) -> Option<u8>
     }
 }
 
-// The byte that two lower hexadecimal digits spell.
+// Returns the byte that two lower hexadecimal digits spell.
 fn byte_value(high: u8, low: u8) -> Option<u8>
     ensures { result ≡ byte_value high low }
 {
@@ -102,7 +102,7 @@ fn push_hex(text: &[u8], bytes: &mut Piece) -> bool
     }
 }
 
-/// The bytes that a text begins with, two lower hexadecimal digits each, as far as there are any. None exactly where there are more than 16.
+/// Returns the bytes that a text begins with, two lower hexadecimal digits each, as far as there are any, or `None` exactly when there are more than 16.
 pub fn read_hex(text: &[u8]) -> Option<Piece>
     ensures all { IfSome result (λ bytes. bytes ≡ hex_front text.now) }
     ensures over { IfNone result (16 < length (hex_front text.now)) }

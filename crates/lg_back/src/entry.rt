@@ -1,4 +1,4 @@
-// The lines behind the first, read back.
+// The lines after the first, read back.
 
 ghost use Rattle.std.specs.Prelude.{◌≡◌, ◌++◌, ℕ, List, length, codes, IfSome, IfNone};
 ghost use Rattle.std.specs.List.{list_all};
@@ -18,10 +18,10 @@ use lg_list::Line;
 use lg_list::lines::write_node_line;
 use lg_node::Op;
 
-/// A line behind the first of a listing.
+/// A line after the first of a listing.
 #[derive(Drop)]
 pub struct EntryLine {
-    /// The bytes that it stands for: none but of an instruction.
+    /// The bytes that it denotes: none but of an instruction.
     pub bytes: Piece,
     /// Its length, its line feed included.
     pub len: usize,
@@ -44,14 +44,14 @@ fn read_node(text: &[u8], line: &mut Line) -> Option<usize>
     }
 }
 
-// Whether a word may go on with all of these bytes.
+// Returns whether a word may go on with all of these bytes.
 fn are_word_bytes(bytes: &[u8]) -> bool
     ensures { result ≡ list_all is_word_byte bytes.now }
 {
     bytes.iter().all(|byte| is_word_byte(*byte))
 }
 
-// Whether bytes are a word of a text.
+// Returns whether bytes are a word of a text.
 fn is_word(bytes: &[u8]) -> bool
     ensures { result ≡ is_word bytes.now }
 {
@@ -91,7 +91,7 @@ fn read_label(at: u32, text: &[u8], line: &mut Line) -> Option<usize>
     }
 }
 
-/// The line behind the first of a listing for a target that a text begins with, at an address. Lines to compare with are written into one that is given; what
+/// The line after the first of a listing for a target that a text begins with, at an address. Lines to compare with are written into one that is given; what
 /// it has is not looked at.
 pub fn read_entry(target: Target, at: u32, text: &[u8], line: &mut Line) -> Option<EntryLine>
     ensures found { IfSome result (λ f. (e : Entry) × HasLine target at text.now e × (f.bytes ≡ bytes_of e) × (f.len ≡ length (line_of at e))) }

@@ -23,7 +23,7 @@ pub struct Head {
     pub len: usize,
 }
 
-// The target whose option word a first line has, if it has one.
+// Returns the target whose option word a first line has, if it has one.
 fn read_target(word: &[u8]) -> Option<Target>
     ensures { (t : AnyTarget) → word.now ≡ target_word t → result ≡ Some t }
 {
@@ -35,7 +35,7 @@ fn read_target(word: &[u8]) -> Option<Target>
     }
 }
 
-/// The first line of a listing, which a text begins with.
+/// Returns the first line of a listing, which a text begins with.
 pub fn read_head(text: &[u8]) -> Option<Head>
     ensures found { IfSome result (λ head. HasHead text.now head.target head.count × (head.len ≡ length (first_line head.target head.count))) }
     ensures none { IfNone result ((t : AnyTarget) (count : ℕ) → ¬ HasHead text.now t count) }

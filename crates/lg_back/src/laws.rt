@@ -24,7 +24,7 @@ pub fn bad_listings_have_one_line(text: &[u8])
     ensures one { (line other : ℕ) → IsBadListing text.now line → IsBadListing text.now other → line ≡ other }
 {}
 
-/// The call reads the listing of code back: the target and the bytes, or memory is wanted.
+/// The call reads the listing of code back: the target and the bytes, or memory runs out.
 pub fn listings_are_read_back(
     alloc: Global,
     text: &[u8],

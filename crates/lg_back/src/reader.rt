@@ -23,14 +23,14 @@ pub struct Back {
 }
 
 impl Back {
-    /// The target that its instructions are of.
+    /// Returns the target that its instructions are of.
     pub fn target(&self) -> Target
         ensures { result ≡ self.now.target }
     {
         self.target
     }
 
-    /// The bytes of its instructions, joined: at most 67,108,864.
+    /// Returns the bytes of its instructions, joined: at most 67,108,864.
     pub fn bytes(&self) -> &CodeBytes
         ensures { result.now ≡ self.now.bytes }
     {
@@ -38,7 +38,7 @@ impl Back {
     }
 }
 
-// The answer to a text whose line is not that of a listing.
+// Returns the answer to a text whose line is not that of a listing.
 fn bad_listing(line: u32) -> Stop
     ensures { result ≡ Stop.Refused (record { kind = RefusalKind.BadListing; line = line }) }
 {
@@ -59,7 +59,7 @@ fn append(bytes: &mut CodeBytes, list: &[u8])
     }
 }
 
-// Appends the bytes of a line, which make so many in all, where these are no more than the most.
+// Appends the bytes of a line, which make this many in all, where these are no more than the most.
 fn keep(bytes: &mut CodeBytes, list: &[u8], count: u32, most: u32)
     requires { count ≤ most → length list.now ≤ bytes.old.room }
     ensures items { count ≤ most → bytes.new.items ≡ bytes.old.items ++ list.now }
@@ -70,7 +70,7 @@ fn keep(bytes: &mut CodeBytes, list: &[u8], count: u32, most: u32)
     }
 }
 
-// Reads the lines behind the first. The bytes are kept while they are no more than the first line names.
+// Reads the lines after the first. The bytes are kept while they are no more than the first line names.
 fn read_lines(text: &[u8], head: Head, mut bytes: CodeBytes) -> Result<Back, Stop>
     requires small { length text.now ≤ 4294967294 }
     requires head { HasHead text.now head.target head.count }
@@ -129,9 +129,9 @@ fn read_behind(alloc: Global, text: &[u8], head: Option<Head>) -> Result<Back, S
     }
 }
 
-/// What a text of at most 4,294,967,294 bytes is a listing of: the target and the bytes. A text that is none is refused by `BadListing`, with the
-/// first line that is not of a listing's form, or with line 1 where all are and the first names another number of bytes than they have. Memory is
-/// wanted for the bytes alone, before the lines behind the first are read.
+/// Returns what a text of at most 4,294,967,294 bytes is a listing of: the target and the bytes. A text that is none is refused by `BadListing`, with the
+/// first line that is not of a listing's form, or with line 1 where all are and the first names another number of bytes than they have. Memory is requested
+/// for the bytes alone, before the lines after the first are read.
 pub fn read_back(alloc: Global, text: &[u8]) -> Result<Back, Stop>
     requires { length text.now ≤ 4294967294 }
     ensures reads { ReadsBack text.now result }

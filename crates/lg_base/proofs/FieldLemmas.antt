@@ -1,4 +1,4 @@
--- A word as what stands above a field, the field, and what stands below it.
+-- A word as what is above a field, the field, and what is below it.
 use Rattle.std.proofs.Common.{◌≡◌, ℕ, ◌+◌, ◌-◌, ◌*◌, ◌/◌, ◌%◌, ◌^◌, ◌<◌, ◌≤◌, ◌⊎◌, bit_or, sym, ap, ap₂, ◌∙◌, arith, ⊎_elim}
 use Rattle.std.specs.Int.{bit_at}
 use Rattle.std.specs.Int.Bits.{bit_xor, xor_self, xor_zero_r, or_zero_r, or_zero_l}

@@ -1,4 +1,4 @@
--- Parts of which not all bytes are held.
+-- Parts not all of whose bytes are held.
 use Rattle.std.proofs.Common.{◌≡◌, ℕ, ◌-◌, ◌<◌, ◌≤◌, List, [], ◌++◌, length, refl, sym, ap, ◌∙◌, arith, ⊎_elim}
 use Rattle.std.specs.Prelude.{slice_index, slice_set, replicate, reverse, take}
 use Rattle.std.proofs.lemmas.Bool.{cases_lt, cases_eq}

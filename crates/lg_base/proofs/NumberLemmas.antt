@@ -3,7 +3,7 @@ use Rattle.std.proofs.Common.{◌≡◌, ℕ, suc, ◌+◌, ◌-◌, ◌<◌, �
 use Rattle.std.proofs.lemmas.Int.{ints}
 use Rattle.lg_base.specs.Fields.{signed, bits_of}
 
--- the bits of the number that stands in a field are those in the field
+-- the bits of the number that is in a field are those in the field
 pub bits_of-signed : (half bits : ℕ) → bits < half + half → bits_of half (signed half bits) ≡ bits
 bits_of-signed half bits h = cases (nat_lt bits half) refl
   where
@@ -11,7 +11,7 @@ bits_of-signed half bits h = cases (nat_lt bits half) refl
     cases true e = rw e refl
     cases false e = rw e (omega arith)
 
--- and the number that stands in the field of a number's bits is the number
+-- and the number that is in the field of a number's bits is the number
 pub signed-bits_of : (half : ℕ) (z : ℤ) → pos 0 ≤ℤ (z +ℤ pos half) → (z +ℤ pos 1) ≤ℤ pos half → signed half (bits_of half z) ≡ z
 signed-bits_of half (pos k) low high = let lt : nat_lt k half ≡ true = grind (arith, ints, low, high) in rw lt refl
 signed-bits_of half (negsuc k) low high =

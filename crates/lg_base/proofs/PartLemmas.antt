@@ -120,7 +120,7 @@ misses base bytes a w e = ⊎_elim (λ lt. inl lt) (λ ge. ⊎_elim (λ lt. inr 
     true_false : true ≡ false → ⊥
     true_false e = cc
 
--- the address lies before the part or behind it, or the part ends within the access
+-- the address lies before the part or after it, or the part ends within the access
 split_part : (base len a w : ℕ) → Misses base len a w → ((a < base) ⊎ (base + len ≤ a)) ⊎ ((base ≤ a) × (a < base + len) × (base + len < a + w))
 unfolding Misses
 split_part base len a w h = ⊎_elim

@@ -1,5 +1,5 @@
--- The calling conventions, System V AMD64, AAPCS64 and the integer convention of RISC-V, with registers by their numbers. Which registers
--- stand for R0, R1, R2, V0, V1, V2 (the numbers 0 to 5) and for the carry is this assembler's choice.
+-- The calling conventions, System V AMD64, AAPCS64 and the integer convention of RISC-V, with registers by their numbers. Which registers correspond to R0,
+-- R1, R2, V0, V1, V2 (the numbers 0 to 5) and for the carry is this assembler's choice.
 use Rattle.std.specs.Prelude.{ℕ, ◌-◌, List, [], ◌∷◌, length, slice_index, slice_get, Option, Some, None, Bool, nat_eq}
 use Rattle.std.specs.List.{list_any}
 use Rattle.lg_base.specs.declared.target.Target.{Target}
@@ -33,7 +33,7 @@ kept_registers Riscv64 = 2 ∷ 8 ∷ 9 ∷ 18 ∷ 19 ∷ 20 ∷ 21 ∷ 22 ∷ 23
 abbrev pub is_kept : Target → ℕ → Bool
 is_kept target register = list_any (nat_eq register) (kept_registers target)
 
--- the registers that stand for R0, R1, R2, V0, V1, V2
+-- the registers that correspond to R0, R1, R2, V0, V1, V2
 abbrev pub portable_registers : Target → List ℕ
 portable_registers X86_64 = 0 ∷ 10 ∷ 11 ∷ 3 ∷ 13 ∷ 14 ∷ []
 portable_registers Aarch64 = 9 ∷ 10 ∷ 11 ∷ 19 ∷ 20 ∷ 21 ∷ []
@@ -42,7 +42,7 @@ portable_registers Riscv64 = 5 ∷ 6 ∷ 7 ∷ 9 ∷ 18 ∷ 19 ∷ []
 abbrev pub portable_register : Target → ℕ → ℕ
 portable_register target r = slice_index (portable_registers target) r
 
--- the frame pointer, the stack pointer, and the link, which on x86-64 stands on the stack
+-- the frame pointer, the stack pointer, and the link, which on x86-64 is on the stack
 abbrev pub frame_register : Target → ℕ
 frame_register X86_64 = 5
 frame_register Aarch64 = 29

@@ -5,7 +5,7 @@ use Rattle.std.specs.Prelude.{ℕ, suc, ◌+◌, ◌-◌, ◌/◌, ◌%◌, ◌^
 abbrev pub part : ℕ → ℕ → ℕ → ℕ
 part lo len word = word / 2 ^ lo % 2 ^ len
 
--- the signed number that stands in a field of half + half values: the upper half of them is negative
+-- the signed number that is in a field of half + half values: the upper half of them is negative
 abbrev pub signed : ℕ → ℕ → ℤ
 signed half bits = if nat_lt bits half then pos bits else negsuc (half + half - suc bits)
 

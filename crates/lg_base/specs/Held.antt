@@ -1,4 +1,4 @@
--- Parts of the memory of which only the bytes up to the last one that was stored are held: the others are 0.
+-- Parts of the memory: only the bytes up to the last one that was stored are held: the others are 0.
 use Rattle.std.specs.Prelude.{ℕ, ◌-◌, List, ◌++◌, length, replicate, reverse, nat_lt, if◌then◌else◌}
 
 -- a part of a size whose first bytes are held, in their order

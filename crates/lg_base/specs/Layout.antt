@@ -12,11 +12,11 @@ code_base = 0x10000000
 abbrev pub most_code : ℕ
 most_code = 0x4000000
 
--- the address behind the stack, which is the first function's stack pointer at its call
+-- the address after the stack, which is the first function's stack pointer at its call
 abbrev pub stack_end : ℕ
 stack_end = 0x40000000
 
--- the frame of a function whose locals take so many bytes, a multiple of 16
+-- the frame of a function whose locals take this many bytes, a multiple of 16
 abbrev pub frame_size : ℕ → ℕ
 frame_size locals = (272 + locals + 15) / 16 * 16
 

@@ -1,13 +1,13 @@
 -- Runs of machines.
 use Rattle.std.specs.Prelude.{◌≡◌, ◌≢◌, ℕ, zero, suc, List, ◌++◌}
 
--- how a run stands; Bad is a step that is undefined, or one at which a processor faults
+-- how a run is; Bad is a step that is undefined, or one at which a processor faults
 pub data Status : Type 0 where
   Running : Status
   Ended : (status : ℕ) → Status
   Bad : Status
 
--- a machine by its step: what a state leads to, how it stands, and what was written up to it
+-- a machine by its step: what a state leads to, how it is, and what was written up to it
 pub record Machine (S : Type 0) : Type 0 where
   pub step : S → S
   pub status : S → Status

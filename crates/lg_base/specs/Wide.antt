@@ -4,7 +4,7 @@ use Rattle.std.specs.Int.{cast_unsigned, w64}
 use Rattle.std.specs.Option.{option_map}
 use Rattle.lg_base.specs.Words.{is_negative, differ, magnitude, with_sign}
 
--- one more than the largest number of so many bytes, which are 1, 2, 4 or 8
+-- one more than the largest number of this many bytes, which are 1, 2, 4 or 8
 abbrev pub span : ℕ → ℕ
 span bytes = if bytes == 1 then 2 ^ 8 else if bytes == 2 then 2 ^ 16 else if bytes == 4 then 2 ^ 32 else 2 ^ 64
 

@@ -1,4 +1,4 @@
--- The bytes of which the words of a text are made.
+-- The bytes that the words of a text are made of.
 use Rattle.std.specs.Prelude.{ℕ, Bool, ◌||◌, ◌==◌}
 use Rattle.std.specs.Char.{is_ascii_alphabetic, is_ascii_alphanumeric}
 

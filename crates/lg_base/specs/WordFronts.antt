@@ -3,7 +3,7 @@ use Rattle.std.specs.Prelude.{ℕ, ◌+◌, ◌*◌, List, Option, None, length,
 use Rattle.std.specs.Option.{option_map}
 use Rattle.std.specs.Int.{w32, from_le_bytes}
 
--- the word whose lowest byte stands at a place
+-- the word whose lowest byte is at a place
 abbrev pub word_at : List ℕ → ℕ → ℕ
 word_at bytes place = slice_index bytes place + 256 * slice_index bytes (place + 1) + 65536 * slice_index bytes (place + 2)
     + 16777216 * slice_index bytes (place + 3)

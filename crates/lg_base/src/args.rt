@@ -16,7 +16,7 @@ const MOST_ARGS: u64 = 0x10_0000;
 // The first address of the argument part.
 const ARGS: u64 = 0x2800_0000;
 
-// Whether the argument part of these words has at most the largest size.
+// Returns whether the argument part of these words has at most the largest size.
 fn fits(words: &Vec<String>) -> bool
     ensures { IsTrue result ↔ (args_len (texts_of words.now.items) ≤ most_args) }
 {
@@ -57,7 +57,7 @@ fn push_strings(bytes: &mut Vec<u8>, words: &Vec<String>) -> Result<(), OutOfMem
     Ok(())
 }
 
-// The argument part of words that fit.
+// Returns the argument part of words that fit.
 fn build(alloc: Global, words: &Vec<String>) -> Result<ArgImage, OutOfMemory>
     requires { args_len (texts_of words.now.items) ≤ most_args }
     ensures { IfOk result (λ image. image ≡ args_of (texts_of words.now.items)) }
@@ -69,7 +69,7 @@ fn build(alloc: Global, words: &Vec<String>) -> Result<ArgImage, OutOfMemory>
     Ok(ArgImage::from_vec(bytes))
 }
 
-/// The argument part whose strings are the words in their order: a little-endian word of 8 bytes that
+/// Returns the argument part whose strings are the words in their order: a little-endian word of 8 bytes that
 /// points to each string, a word of 0, and the strings, each ended by a zero byte. Words whose argument
 /// part would pass 1,048,576 bytes are refused.
 pub fn args_image(alloc: Global, words: &Vec<String>) -> Result<ArgImage, Stop>
@@ -89,7 +89,7 @@ pub fn args_image(alloc: Global, words: &Vec<String>) -> Result<ArgImage, Stop>
     Ok(image)
 }
 
-// The word of 8 bytes at a place, the lowest byte first.
+// Returns the word of 8 bytes at a place, the lowest byte first.
 fn word_at(bytes: &[u8], at: usize) -> u64
     requires { at + 8 ≤ length bytes.now }
     ensures { result ≡ from_le_bytes w64 (take 8 (drop at bytes.now)) }
@@ -106,7 +106,7 @@ fn word_at(bytes: &[u8], at: usize) -> u64
     ])
 }
 
-/// The number of strings of an argument part: how many words of 8 bytes stand before the first that is 0. Any bytes have such a
+/// Returns the number of strings of an argument part: how many words of 8 bytes are before the first that is 0. Any bytes have such a
 /// number; that of an argument part made of words is their number.
 pub fn argument_count(args: &[u8]) -> u64
     ensures { result ≡ argument_count args.now }
@@ -119,7 +119,7 @@ pub fn argument_count(args: &[u8]) -> u64
     count as u64
 }
 
-/// The number of strings of an argument part is that of the words of which it is made. The function does nothing: its contract
+/// The number of strings of an argument part is that of the words that it is made of. The function does nothing: its contract
 /// is the law.
 pub fn arguments_are_counted()
     ensures { CountsArguments }

@@ -1,4 +1,4 @@
-// Code: its bytes, and what stands where.
+// Code: its bytes, and what is where.
 
 ghost use Rattle.std.specs.Prelude.{◌≡◌, ◌<◌, ◌≤◌, ◌+◌, ◌^◌, ◌↔◌, ℕ, List, [], ◌∷◌, ◌++◌, length, slice_index, vec_len, IfOk, IsTrue};
 
@@ -25,7 +25,7 @@ impl Model for CodeBytes {
 }
 
 impl CodeBytes {
-    /// The list of these bytes, of which there are at most 4,294,967,295, with room for no more.
+    /// Returns the list of these bytes (at most 4,294,967,295), with room for no more.
     pub fn of(alloc: Global, list: &[u8]) -> Result<CodeBytes, OutOfMemory>
         requires { length list.now < 2 ^ 32 }
         ensures items { IfOk result (λ l. l.items ≡ list.now) }
@@ -35,7 +35,7 @@ impl CodeBytes {
         Ok(CodeBytes { bytes, room: 0 })
     }
 
-    /// The list that a vector holds, of which there are at most 4,294,967,295 bytes, with room for no more.
+    /// Returns the list that a vector holds (at most 4,294,967,295 bytes), with room for no more.
     pub fn from_vec(bytes: Vec<u8>) -> CodeBytes
         requires { length bytes.items < 2 ^ 32 }
         ensures items { result.items ≡ bytes.items }
@@ -44,7 +44,7 @@ impl CodeBytes {
         CodeBytes { bytes, room: 0 }
     }
 
-    /// No bytes, with room for so many.
+    /// No bytes, with room for this many.
     pub fn with_room(alloc: Global, room: u32) -> Result<CodeBytes, OutOfMemory>
         ensures items { IfOk result (λ l. l.items ≡ []) }
         ensures room { IfOk result (λ l. l.room ≡ room) }
@@ -63,21 +63,21 @@ impl CodeBytes {
         self.room -= 1;
     }
 
-    /// How many bytes there are.
+    /// Returns how many bytes there are.
     pub fn len(&self) -> u32
         ensures { result ≡ length self.now.items }
     {
         self.bytes.len() as u32
     }
 
-    /// Whether there is none.
+    /// Returns whether there is none.
     pub fn is_empty(&self) -> bool
         ensures { IsTrue result ↔ (length self.now.items ≡ 0) }
     {
         self.bytes.len() == 0
     }
 
-    /// The byte of an index, which is below `len`.
+    /// Returns the byte of an index, which is below `len`.
     pub fn get(&self, index: u32) -> u8
         requires { index < length self.now.items }
         ensures { result ≡ slice_index self.now.items index }
@@ -85,7 +85,7 @@ impl CodeBytes {
         self.bytes[index as usize]
     }
 
-    /// The bytes.
+    /// Returns the bytes.
     pub fn as_slice(&self) -> &[u8]
         ensures value { result.now ≡ self.now.items }
         ensures small { length self.now.items < 2 ^ 32 }
@@ -113,7 +113,7 @@ impl Model for Places {
 }
 
 impl Places {
-    /// The list of these places, of which there are at most 4,294,967,295, with room for no more.
+    /// Returns the list of these places (at most 4,294,967,295), with room for no more.
     pub fn of(alloc: Global, list: &[u32]) -> Result<Places, OutOfMemory>
         requires { length list.now < 2 ^ 32 }
         ensures items { IfOk result (λ l. l.items ≡ list.now) }
@@ -123,7 +123,7 @@ impl Places {
         Ok(Places { places, room: 0 })
     }
 
-    /// No places, with room for so many.
+    /// No places, with room for this many.
     pub fn with_room(alloc: Global, room: u32) -> Result<Places, OutOfMemory>
         ensures items { IfOk result (λ l. l.items ≡ []) }
         ensures room { IfOk result (λ l. l.room ≡ room) }
@@ -142,21 +142,21 @@ impl Places {
         self.room -= 1;
     }
 
-    /// How many places there are.
+    /// Returns how many places there are.
     pub fn len(&self) -> u32
         ensures { result ≡ length self.now.items }
     {
         self.places.len() as u32
     }
 
-    /// Whether there is none.
+    /// Returns whether there is none.
     pub fn is_empty(&self) -> bool
         ensures { IsTrue result ↔ (length self.now.items ≡ 0) }
     {
         self.places.len() == 0
     }
 
-    /// The place of an index, which is below `len`.
+    /// Returns the place of an index, which is below `len`.
     pub fn get(&self, index: u32) -> u32
         requires { index < length self.now.items }
         ensures { result ≡ slice_index self.now.items index }
@@ -164,7 +164,7 @@ impl Places {
         self.places[index as usize]
     }
 
-    /// The places.
+    /// Returns the places.
     pub fn as_slice(&self) -> &[u32]
         ensures value { result.now ≡ self.now.items }
         ensures small { length self.now.items < 2 ^ 32 }
@@ -192,7 +192,7 @@ impl Model for Origin {
 }
 
 impl Origin {
-    /// The list of these indices, of which there are at most 4,294,967,295, with room for no more.
+    /// Returns the list of these indices (at most 4,294,967,295), with room for no more.
     pub fn of(alloc: Global, list: &[u32]) -> Result<Origin, OutOfMemory>
         requires { length list.now < 2 ^ 32 }
         ensures items { IfOk result (λ l. l.items ≡ list.now) }
@@ -202,7 +202,7 @@ impl Origin {
         Ok(Origin { indices, room: 0 })
     }
 
-    /// No indices, with room for so many.
+    /// No indices, with room for this many.
     pub fn with_room(alloc: Global, room: u32) -> Result<Origin, OutOfMemory>
         ensures items { IfOk result (λ l. l.items ≡ []) }
         ensures room { IfOk result (λ l. l.room ≡ room) }
@@ -221,21 +221,21 @@ impl Origin {
         self.room -= 1;
     }
 
-    /// How many nodes there are.
+    /// Returns how many nodes there are.
     pub fn len(&self) -> u32
         ensures { result ≡ length self.now.items }
     {
         self.indices.len() as u32
     }
 
-    /// Whether there is none.
+    /// Returns whether there is none.
     pub fn is_empty(&self) -> bool
         ensures { IsTrue result ↔ (length self.now.items ≡ 0) }
     {
         self.indices.len() == 0
     }
 
-    /// The index that a node comes from, whose own is below `len`.
+    /// Returns the index that a node comes from, whose own is below `len`.
     pub fn get(&self, index: u32) -> u32
         requires { index < length self.now.items }
         ensures { result ≡ slice_index self.now.items index }
@@ -243,7 +243,7 @@ impl Origin {
         self.indices[index as usize]
     }
 
-    /// The indices.
+    /// Returns the indices.
     pub fn as_slice(&self) -> &[u32]
         ensures value { result.now ≡ self.now.items }
         ensures small { length self.now.items < 2 ^ 32 }

@@ -23,7 +23,7 @@ pub enum FaultKind {
 }
 
 impl FaultKind {
-    /// The name of the kind, as the program prints it.
+    /// Returns the name of the kind, as the program prints it.
     pub fn name(self) -> &'static str
         ensures { result.now ≡ name_of_fault self }
     {

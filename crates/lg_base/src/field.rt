@@ -9,7 +9,7 @@ ghost use Rattle.lg_base.specs.Fields.{part};
 pub struct Field<const LO: u32, const LEN: u32>;
 
 impl<const LO: u32, const LEN: u32> Field<LO, LEN> {
-    /// The number that the field holds, below `2 ^ LEN`.
+    /// Returns the number that the field holds, below `2 ^ LEN`.
     pub fn get(word: u32) -> u32
         requires some { 1 ≤ LEN }
         requires len { LEN ≤ 31 }
@@ -20,7 +20,7 @@ impl<const LO: u32, const LEN: u32> Field<LO, LEN> {
         (word >> LO) & ((1 << LEN) - 1)
     }
 
-    /// The word with a number, which is below `2 ^ LEN`, in the field, and every other bit as it was.
+    /// Returns the word with a number, which is below `2 ^ LEN`, in the field, and every other bit as it was.
     pub fn put(word: u32, value: u32) -> u32
         requires some { 1 ≤ LEN }
         requires len { LEN ≤ 31 }

@@ -25,7 +25,7 @@ pub enum Flags {
 }
 
 impl Flags {
-    /// The carry, where there is one and it is defined.
+    /// Returns the carry, where there is one and it is defined.
     pub fn carry(self) -> Option<bool>
         ensures { result ≡ carry_of self }
     {

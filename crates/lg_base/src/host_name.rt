@@ -52,7 +52,7 @@ static HOST_NAMES: [HostName; 13] = [
 ];
 
 impl HostName {
-    /// The name of the function in C.
+    /// Returns the name of the function in C.
     pub fn word(self) -> &'static [u8]
         ensures { result.now ≡ host_word self }
     {
@@ -73,14 +73,14 @@ impl HostName {
         }
     }
 
-    /// The function of a name, and None exactly where no host function has it.
+    /// Returns the function of a name, or `None` exactly when no host function has it.
     pub fn by_name(word: &[u8]) -> Option<HostName>
         ensures { result ≡ host_by_name word.now }
     {
         HOST_NAMES.iter().copied().find(|name| word == name.word())
     }
 
-    /// The address of the function's entry: 0x0FF00000 and 16 bytes for each function before it.
+    /// Returns the address of the function's entry: 0x0FF00000 and 16 bytes for each function before it.
     pub fn address(self) -> u64
         ensures { result ≡ host_address self }
     {
@@ -101,7 +101,7 @@ impl HostName {
         }
     }
 
-    /// The function whose entry stands at an address, and None exactly where none does.
+    /// Returns the function whose entry is at an address, or `None` exactly when none does.
     pub fn from_address(address: u64) -> Option<HostName>
         ensures { result ≡ host_by_address address }
     {

@@ -21,7 +21,7 @@ impl Model for DataImage {
 }
 
 impl DataImage {
-    /// The list of these bytes, of which there are at most 4,294,967,295.
+    /// Returns the list of these bytes (at most 4,294,967,295).
     pub fn of(alloc: Global, list: &[u8]) -> Result<DataImage, OutOfMemory>
         requires { length list.now < 2 ^ 32 }
         ensures { IfOk result (λ l. l ≡ list.now) }
@@ -30,7 +30,7 @@ impl DataImage {
         Ok(DataImage { bytes })
     }
 
-    /// The list that a vector holds, of which there are at most 4,294,967,295 bytes. No memory is taken.
+    /// Returns the list that a vector holds (at most 4,294,967,295 bytes). No memory is taken.
     pub fn from_vec(bytes: Vec<u8>) -> DataImage
         requires { length bytes.items < 2 ^ 32 }
         ensures { result ≡ bytes.items }
@@ -38,21 +38,21 @@ impl DataImage {
         DataImage { bytes }
     }
 
-    /// How many bytes there are.
+    /// Returns how many bytes there are.
     pub fn len(&self) -> u32
         ensures { result ≡ length self.now }
     {
         self.bytes.len() as u32
     }
 
-    /// Whether there is none.
+    /// Returns whether there is none.
     pub fn is_empty(&self) -> bool
         ensures { IsTrue result ↔ (length self.now ≡ 0) }
     {
         self.bytes.len() == 0
     }
 
-    /// The byte of an index, which is below `len`.
+    /// Returns the byte of an index, which is below `len`.
     pub fn get(&self, index: u32) -> u8
         requires { index < length self.now }
         ensures { result ≡ slice_index self.now index }
@@ -60,7 +60,7 @@ impl DataImage {
         self.bytes[index as usize]
     }
 
-    /// The bytes.
+    /// Returns the bytes.
     pub fn as_slice(&self) -> &[u8]
         ensures value { result.now ≡ self.now }
         ensures small { length self.now < 2 ^ 32 }
@@ -84,7 +84,7 @@ impl Model for ArgImage {
 }
 
 impl ArgImage {
-    // The list that a vector holds, of which there are at most 4,294,967,295 bytes.
+    // Returns the list that a vector holds (at most 4,294,967,295 bytes).
     pub(crate) fn from_vec(bytes: Vec<u8>) -> ArgImage
         requires { length bytes.items < 2 ^ 32 }
         ensures { result ≡ bytes.items }
@@ -92,7 +92,7 @@ impl ArgImage {
         ArgImage { bytes }
     }
 
-    /// The list of these bytes, of which there are at most 4,294,967,295.
+    /// Returns the list of these bytes (at most 4,294,967,295).
     pub fn of(alloc: Global, list: &[u8]) -> Result<ArgImage, OutOfMemory>
         requires { length list.now < 2 ^ 32 }
         ensures { IfOk result (λ l. l ≡ list.now) }
@@ -101,21 +101,21 @@ impl ArgImage {
         Ok(ArgImage { bytes })
     }
 
-    /// How many bytes there are.
+    /// Returns how many bytes there are.
     pub fn len(&self) -> u32
         ensures { result ≡ length self.now }
     {
         self.bytes.len() as u32
     }
 
-    /// Whether there is none.
+    /// Returns whether there is none.
     pub fn is_empty(&self) -> bool
         ensures { IsTrue result ↔ (length self.now ≡ 0) }
     {
         self.bytes.len() == 0
     }
 
-    /// The byte of an index, which is below `len`.
+    /// Returns the byte of an index, which is below `len`.
     pub fn get(&self, index: u32) -> u8
         requires { index < length self.now }
         ensures { result ≡ slice_index self.now index }
@@ -123,7 +123,7 @@ impl ArgImage {
         self.bytes[index as usize]
     }
 
-    /// The bytes.
+    /// Returns the bytes.
     pub fn as_slice(&self) -> &[u8]
         ensures value { result.now ≡ self.now }
         ensures small { length self.now < 2 ^ 32 }

@@ -1,4 +1,4 @@
-//! Addresses of the machine that the text is written for, and the most bytes of a text. Their definitions stand in `specs/Layout.antt` and
+//! Addresses of the machine that the text is written for, and the most bytes of a text. Their definitions are in `specs/Layout.antt` and
 //! `specs/Conventions.antt`.
 
 /// The first address of code.

@@ -45,7 +45,7 @@ impl Model for Memory {
     ghost invariant = { λ m. IsSized record { data_part = m.data.items; args_part = m.args.items; heap_part = m.heap; stack_part = m.stack } };
 }
 
-// So many zero bytes.
+// This many zero bytes.
 fn zeros(alloc: Global, len: usize) -> Result<Vec<u8>, OutOfMemory>
     ensures len { IfOk result (λ v. length v.items ≡ len) }
     ensures zero { IfOk result (λ v. slice_index v.items ≡ (λ _. 0)) }
@@ -210,7 +210,7 @@ fn reach(bytes: &mut Vec<u8>, len: usize)
 }
 
 impl Memory {
-    /// A memory with data and arguments parts of these lengths, at most 16,777,216 and 1,048,576 bytes,
+    /// Returns a memory with data and arguments parts of these lengths, at most 16,777,216 and 1,048,576 bytes,
     /// in which every byte is 0.
     pub fn new(alloc: Global, image_len: u64, args_len: u64) -> Result<Memory, OutOfMemory>
         requires image { image_len ≤ 0x1000000 }
@@ -229,7 +229,7 @@ impl Memory {
         })
     }
 
-    /// A memory with these data and argument parts, of at most 16,777,216 and 1,048,576 bytes, in which
+    /// Returns a memory with these data and argument parts, of at most 16,777,216 and 1,048,576 bytes, in which
     /// every other byte is 0.
     pub fn with_parts(alloc: Global, image: &[u8], args: &[u8]) -> Result<Memory, OutOfMemory>
         requires image { length image.now ≤ 0x1000000 }
@@ -267,7 +267,7 @@ impl Memory {
         true
     }
 
-    /// The number in `width` bytes from an address on, the lowest byte first. None exactly where not all
+    /// Returns the number in `width` bytes from an address on, the lowest byte first, or `None` exactly when not all
     /// bytes lie in one part. `width` is 1, 2, 4 or 8.
     #[inline(always)]
     pub fn load(&self, address: u64, width: u32) -> Option<u64>

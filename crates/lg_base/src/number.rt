@@ -3,7 +3,7 @@
 ghost use Rattle.std.specs.Prelude.{◌≡◌, ◌<◌, ◌≤◌, ◌+◌, ◌^◌, pos, ◌+ℤ◌, ◌≤ℤ◌};
 ghost use Rattle.lg_base.specs.Fields.{signed, bits_of, word_of};
 
-/// The bits of a signed number in a field of `2 * half` values: two's complement. The number is from
+/// Returns the bits of a signed number in a field of `2 * half` values: two's complement. The number is from
 /// `-half` to `half - 1`, and `half` at most `2 ^ 30`.
 pub fn to_bits(value: i32, half: u32) -> u32
     requires size { half ≤ 2 ^ 30 }
@@ -19,7 +19,7 @@ pub fn to_bits(value: i32, half: u32) -> u32
     }
 }
 
-/// The signed number that stands in a field of `2 * half` values. The bits are below `2 * half`, and
+/// Returns the signed number that is in a field of `2 * half` values. The bits are below `2 * half`, and
 /// `half` is at most `2 ^ 30`.
 pub fn from_bits(bits: u32, half: u32) -> i32
     requires size { half ≤ 2 ^ 30 }
@@ -35,7 +35,7 @@ pub fn from_bits(bits: u32, half: u32) -> i32
     }
 }
 
-/// The word of 64 bits whose signed view is the number.
+/// Returns the word of 64 bits whose signed view is the number.
 pub fn sign_extended(value: i32) -> u64
     ensures { result ≡ word_of value }
 {

@@ -20,7 +20,7 @@ impl Model for Piece {
 }
 
 impl Piece {
-    /// The empty list.
+    /// Returns the empty list.
     pub fn new() -> Self
         ensures { result ≡ [] }
     {
@@ -30,7 +30,7 @@ impl Piece {
         }
     }
 
-    /// The list of these bytes, of which there are at most 16.
+    /// Returns the list of these bytes (at most 16).
     pub fn of(list: &[u8]) -> Self
         requires { length list.now ≤ 16 }
         ensures { result ≡ list.now }
@@ -59,7 +59,7 @@ impl Piece {
         }
     }
 
-    /// The bytes.
+    /// Returns the bytes.
     pub fn as_slice(&self) -> &[u8]
         ensures value { result.now ≡ self.now }
         ensures room { length result.now ≤ 16 }

@@ -1,4 +1,4 @@
-// Why a text is refused, and want of memory.
+// Why a text is refused, and that memory ran out.
 
 ghost use Rattle.std.specs.Prelude.{◌≡◌};
 ghost use Rattle.lg_base.specs.Refusals.{number_of_kind, name_of_kind, sentence_of_kind};
@@ -28,7 +28,7 @@ impl<T: Drop> From<AllocFailed<T>> for OutOfMemory {
 pub enum RefusalKind {
     /// 1: a token is malformed.
     BadToken,
-    /// 2: a token stands at a statement's place and is no statement of its section.
+    /// 2: a token is at a statement's place and is no statement of its section.
     UnknownName,
     /// 3: a floating-point instruction, directive or register.
     FloatRefused,
@@ -40,11 +40,11 @@ pub enum RefusalKind {
     LabelTwice,
     /// 7: a node names a label that nothing binds.
     LabelMissing,
-    /// 8: a node stands outside every function.
+    /// 8: a node is outside every function.
     NotInFunction,
     /// 9: a `prolog` stands inside a function, or the text ends inside one.
     FunctionOpen,
-    /// 10: a jump, branch or call goes where it may not, or a code label stands as an immediate where it may not.
+    /// 10: a jump, branch or call goes where it may not, or a code label is as an immediate where it may not.
     TargetOutside,
     /// 11: a node is out of place in the preparing of a call.
     BadCall,
@@ -64,7 +64,7 @@ pub enum RefusalKind {
     CodeFull,
     /// 19: the locals of a function pass 65,536 bytes.
     FrameTooBig,
-    /// 20: no `prolog` stands in the text.
+    /// 20: no `prolog` is in the text.
     NoCode,
     /// 21: the argument part would pass 1,048,576 bytes.
     ArgsTooLong,
@@ -110,7 +110,7 @@ impl From<OutOfMemory> for Stop {
 }
 
 impl RefusalKind {
-    /// The number of the kind, 1 to 25.
+    /// Returns the number of the kind, 1 to 25.
     pub fn number(self) -> u32
         ensures { result ≡ number_of_kind self }
     {
@@ -143,7 +143,7 @@ impl RefusalKind {
         }
     }
 
-    /// The name of the kind, as the program prints it.
+    /// Returns the name of the kind, as the program prints it.
     pub fn name(self) -> &'static str
         ensures { result.now ≡ name_of_kind self }
     {
@@ -176,7 +176,7 @@ impl RefusalKind {
         }
     }
 
-    /// The sentence that explains the kind: what the line is refused for, and what is often meant.
+    /// Returns the sentence that explains the kind: what the line is refused for, and what is often meant.
     pub fn sentence(self) -> &'static str
         ensures { result.now ≡ sentence_of_kind self }
     {

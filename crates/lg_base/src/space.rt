@@ -11,7 +11,7 @@ pub trait Space {
     /// Whether an address can be written.
     ghost room: { Self → ℕ → Bool };
 
-    /// The byte at an address, and None exactly where none can be read.
+    /// Returns the byte at an address, or `None` exactly when none can be read.
     fn get(&self, address: u64) -> Option<u8>
         ensures { result ≡ byte_of self.now address };
 
@@ -19,7 +19,7 @@ pub trait Space {
     fn slice(&self, address: u64, len: u64) -> Option<&[u8]>
         ensures { IfSome result (λ bytes. HasBytes (byte_of self.now) address len bytes.now) };
 
-    /// Whether an address can be written.
+    /// Returns whether an address can be written.
     fn can_put(&self, address: u64) -> bool
         ensures { result ≡ room self.now address };
 

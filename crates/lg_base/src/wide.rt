@@ -7,21 +7,21 @@ ghost use Rattle.lg_base.specs.Wide.{as_words, quotient_wide, quotient_wide_sign
 
 use crate::word::{SIGN_BIT, magnitude_of, signed_word};
 
-/// The high word of the unsigned product of 128 bits.
+/// Returns the high word of the unsigned product of 128 bits.
 pub fn mul_high_u(a: u64, b: u64) -> u64
     ensures { result ≡ high_product a b }
 {
     ((a as u128 * b as u128) >> 64) as u64
 }
 
-// The high word of the signed product, as words.
+// Returns the high word of the signed product, as words.
 fn mul_high_words(a: u64, b: u64) -> u64
     ensures { result ≡ high_product_signed a b }
 {
     (extend(a).wrapping_mul(extend(b)) >> 64) as u64
 }
 
-// The word of 128 bits with the same signed view.
+// Returns the word of 128 bits with the same signed view.
 fn extend(a: u64) -> u128
     ensures { result ≡ extended a }
 {
@@ -32,14 +32,14 @@ fn extend(a: u64) -> u128
     }
 }
 
-/// The high word of the product of a signed and an unsigned word.
+/// Returns the high word of the product of a signed and an unsigned word.
 pub fn mul_high_mixed(a: u64, b: u64) -> u64
     ensures { result ≡ high_product_mixed a b }
 {
     (extend(a).wrapping_mul(b as u128) >> 64) as u64
 }
 
-/// The high word of the signed product of 128 bits.
+/// Returns the high word of the signed product of 128 bits.
 pub fn mul_high(a: i64, b: i64) -> i64
     ensures { cast_unsigned w64 result ≡ high_product_signed (cast_unsigned w64 a) (cast_unsigned w64 b) }
 {
@@ -58,7 +58,7 @@ pub fn div_wide_u(high: u64, low: u64, by: u64) -> Option<(u64, u64)>
     Some(((whole / by as u128) as u64, (whole % by as u128) as u64))
 }
 
-// The size of a signed double word.
+// Returns the size of a signed double word.
 fn size_of_wide(high: u64, low: u64) -> u128
     ensures { result ≡ wide_magnitude high low }
 {
@@ -70,7 +70,7 @@ fn size_of_wide(high: u64, low: u64) -> u128
     }
 }
 
-// Whether a quotient of this size and sign is a signed word.
+// Returns whether a quotient of this size and sign is a signed word.
 fn fits(negative: bool, q: u128) -> bool
     ensures { result ≡ fits_signed negative q }
 {
@@ -112,7 +112,7 @@ pub fn div_wide(high: i64, low: u64, by: i64) -> Option<(i64, i64)>
     }
 }
 
-/// The low bytes of a word, the others 0. `bytes` is 1, 2, 4 or 8.
+/// Returns the low bytes of a word, the others 0. `bytes` is 1, 2, 4 or 8.
 pub fn zero_part(value: u64, bytes: u32) -> u64
     requires { (bytes ≡ 1) ⊎ (bytes ≡ 2) ⊎ (bytes ≡ 4) ⊎ (bytes ≡ 8) }
     ensures { result ≡ zero_part_of value bytes }
@@ -125,7 +125,7 @@ pub fn zero_part(value: u64, bytes: u32) -> u64
     }
 }
 
-/// The low bytes of a word, extended by their sign. `bytes` is 1, 2, 4 or 8.
+/// Returns the low bytes of a word, extended by their sign. `bytes` is 1, 2, 4 or 8.
 pub fn sign_part(value: u64, bytes: u32) -> u64
     requires { (bytes ≡ 1) ⊎ (bytes ≡ 2) ⊎ (bytes ≡ 4) ⊎ (bytes ≡ 8) }
     ensures { result ≡ sign_part_of value bytes }
@@ -151,28 +151,28 @@ pub fn sign_part(value: u64, bytes: u32) -> u64
     }
 }
 
-// The low 2 bytes in the other order.
+// Returns the low 2 bytes in the other order.
 fn swap2(value: u64) -> u64
     ensures { result ≡ value % 256 * 256 + value / 256 % 256 }
 {
     value % 256 * 256 + value / 256 % 256
 }
 
-// The low 4 bytes in the other order.
+// Returns the low 4 bytes in the other order.
 fn swap4(value: u64) -> u64
     ensures { result ≡ swapped value 4 }
 {
     swap2(value) * 0x1_0000 + swap2(value / 0x1_0000)
 }
 
-// The low 8 bytes in the other order.
+// Returns the low 8 bytes in the other order.
 fn swap8(value: u64) -> u64
     ensures { result ≡ swapped value 8 }
 {
     swap4(value) * 0x1_0000_0000 + swap4(value / 0x1_0000_0000)
 }
 
-/// The low bytes of a word in the other order, the others 0. `bytes` is 1, 2, 4 or 8.
+/// Returns the low bytes of a word in the other order, the others 0. `bytes` is 1, 2, 4 or 8.
 pub fn swap_bytes(value: u64, bytes: u32) -> u64
     requires { (bytes ≡ 1) ⊎ (bytes ≡ 2) ⊎ (bytes ≡ 4) ⊎ (bytes ≡ 8) }
     ensures { result ≡ swapped value bytes }

@@ -7,7 +7,7 @@ ghost use Rattle.lg_base.specs.Words.{quotient_signed, remainder_signed, shifted
 /// 2^63: the least word that is negative in the signed view.
 pub const SIGN_BIT: u64 = 0x8000_0000_0000_0000;
 
-/// The size of a signed word: at most `2 ^ 63`.
+/// Returns the size of a signed word: at most `2 ^ 63`.
 pub fn magnitude_of(a: u64) -> u64
     ensures { result ≡ magnitude a }
 {
@@ -18,7 +18,7 @@ pub fn magnitude_of(a: u64) -> u64
     }
 }
 
-/// The word of a size and a sign.
+/// Returns the word of a size and a sign.
 pub fn signed_word(negative: bool, size: u64) -> u64
     ensures { result ≡ with_sign negative size }
 {
@@ -29,7 +29,7 @@ pub fn signed_word(negative: bool, size: u64) -> u64
     }
 }
 
-/// The signed quotient towards zero. The divisor is not 0; the least word by -1 gives itself.
+/// Returns the signed quotient towards zero. The divisor is not 0; the least word by -1 gives itself.
 pub fn divide_signed(a: u64, b: u64) -> u64
     requires { b ≢ 0 }
     ensures { result ≡ quotient_signed a b }
@@ -40,7 +40,7 @@ pub fn divide_signed(a: u64, b: u64) -> u64
     )
 }
 
-/// The signed remainder, with the dividend's sign. The divisor is not 0; the least word by -1 gives 0.
+/// Returns the signed remainder, with the dividend's sign. The divisor is not 0; the least word by -1 gives 0.
 pub fn remain_signed(a: u64, b: u64) -> u64
     requires { b ≢ 0 }
     ensures { result ≡ remainder_signed a b }
@@ -48,7 +48,7 @@ pub fn remain_signed(a: u64, b: u64) -> u64
     signed_word(a >= SIGN_BIT, magnitude_of(a) % magnitude_of(b))
 }
 
-/// The shift to the right that carries the sign. The count is below 64.
+/// Returns the shift to the right that carries the sign. The count is below 64.
 pub fn shift_right_signed(a: u64, count: u32) -> u64
     requires { count < 64 }
     ensures { result ≡ shifted_right_signed a count }
@@ -60,14 +60,14 @@ pub fn shift_right_signed(a: u64, count: u32) -> u64
     }
 }
 
-/// Whether the signed view of a word is below that of another.
+/// Returns whether the signed view of a word is below that of another.
 pub fn less_signed(a: u64, b: u64) -> bool
     ensures { result ≡ is_less_signed a b }
 {
     a.wrapping_add(SIGN_BIT) < b.wrapping_add(SIGN_BIT)
 }
 
-/// Whether the sum of two signed words does not fit a signed word.
+/// Returns whether the sum of two signed words does not fit a signed word.
 pub fn sum_overflows_signed(a: u64, b: u64) -> bool
     ensures { result ≡ sum_overflows a b }
 {
@@ -78,7 +78,7 @@ pub fn sum_overflows_signed(a: u64, b: u64) -> bool
     }
 }
 
-/// Whether the difference of two signed words does not fit a signed word.
+/// Returns whether the difference of two signed words does not fit a signed word.
 pub fn difference_overflows_signed(a: u64, b: u64) -> bool
     ensures { result ≡ difference_overflows a b }
 {
@@ -89,7 +89,7 @@ pub fn difference_overflows_signed(a: u64, b: u64) -> bool
     }
 }
 
-/// The low 32 bits, extended by their sign.
+/// Returns the low 32 bits, extended by their sign.
 pub fn sign_extend_32(a: u64) -> u64
     ensures { result ≡ sign_32 a }
 {
@@ -101,7 +101,7 @@ pub fn sign_extend_32(a: u64) -> u64
     }
 }
 
-/// Whether the signed view of a word is from -2^31 to 2^31 - 1, as the numbers of 32 bits are.
+/// Returns whether the signed view of a word is from -2^31 to 2^31 - 1, as the numbers of 32 bits are.
 pub fn is_half(value: u64) -> bool
     ensures { result ≡ is_half value }
 {
@@ -109,7 +109,7 @@ pub fn is_half(value: u64) -> bool
 }
 
 // In a function of its own it becomes one load.
-/// The word of 32 bits that the first four bytes are, the lowest byte first. There are at least 4.
+/// Returns the word of 32 bits that the first four bytes are, the lowest byte first. There are at least 4.
 pub fn word_in_front(bytes: &[u8]) -> u32
     requires { 4 ≤ length bytes.now }
     ensures { result ≡ from_le_bytes w32 (take 4 bytes.now) }

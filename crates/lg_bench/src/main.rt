@@ -1,8 +1,8 @@
-// Work that is timed from outside, by two words and a third that says how often; each prints a number that it comes to. `code N TIMES TARGET` reads, checks and
-// assembles a text of N instructions, at most 1,000,000, for `rv64`, `aarch64` or `x86_64`, and without a word for RV64; `assemble N TIMES TARGET` reads that text once;
-// `straight N TIMES`, `branches N TIMES` and `jumps N TIMES` find the live registers of a text of N lines; `moves N TIMES` and `chain N TIMES` rewrite one of N moves or
-// jumps; `known N TIMES` folds one of N lines, and `dead N TIMES` drops the N definitions of one; `emit N` emits 64 MiB in pieces of N bytes. Without words it does a
-// little of each.
+// Work that is timed from outside, by two words and a third that says how often; each prints a number that it results in. `code N TIMES TARGET` reads, checks
+// and assembles a text of N instructions, at most 1,000,000, for `rv64`, `aarch64` or `x86_64`, and without a word for RV64; `assemble N TIMES TARGET` reads
+// that text once; `straight N TIMES`, `branches N TIMES` and `jumps N TIMES` find the live registers of a text of N lines; `moves N TIMES` and `chain N
+// TIMES` rewrite one of N moves or jumps; `known N TIMES` folds one of N lines, and `dead N TIMES` drops the N definitions of one; `emit N` emits 64 MiB in
+// pieces of N bytes. Without words it does a little of each.
 #![tactic(auto)]
 
 mod passes;
@@ -17,7 +17,7 @@ use std::alloc::Global;
 use std::{env, io, str};
 use works::{WORKS, Work};
 
-// What the work comes to.
+// Returns the outcome of the work.
 fn done(alloc: Global, work: &Work, counts: [u32; 2], target: Target) -> Result<u64, Stop> {
     match work {
         Work::Text(parts, pass) => pass_lines(alloc, pass, parts, counts, target),
@@ -38,12 +38,12 @@ fn print_done(
     }
 }
 
-// The number that a word gives, and else 1.
+// Returns the number that a word gives, and else 1.
 fn number_in(word: &str) -> u32 {
     str::parse::<u32>(word).unwrap_or(1)
 }
 
-// The target that a word names, and else RV64.
+// Returns the target that a word names, and else RV64.
 fn target_in(word: &str) -> Target {
     match word {
         "x86_64" => Target::X86_64,
@@ -52,12 +52,12 @@ fn target_in(word: &str) -> Target {
     }
 }
 
-// The word of a number, from 0, the program's name, on; empty where there is none.
+// Returns the word of a number, from 0, the program's name, on; empty where there is none.
 fn word_of(line: &str, number: usize) -> &str {
     line.lines().nth(number).unwrap_or("")
 }
 
-// Does the work that the words ask for, which stand in lines, or, where they ask for none, a little of each.
+// Does the work that the words ask for, which are in lines, or, where they ask for none, a little of each.
 fn work_all(rt: &HostRuntime, line: &str) -> io::Result<()> {
     let asked = word_of(line, 1);
     let times = number_in(word_of(line, 3));

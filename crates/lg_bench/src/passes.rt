@@ -15,7 +15,7 @@ use lg_opt::Rewritten;
 use lg_tst::parse;
 use std::alloc::Global;
 
-// The code of a unit on a target. What it is promised to be is of no use here.
+// Returns the code of a unit on a target. What it is promised to be is of no use here.
 fn code_of(alloc: Global, unit: &Unit, target: Target) -> Result<Code, Stop>
     requires { IsWhole unit.now }
 {
@@ -33,7 +33,7 @@ fn unit_bytes(alloc: Global, unit: &Unit, target: Target) -> Result<u64, Stop>
     }
 }
 
-// The same so many times.
+// The same this many times.
 fn code_bytes(alloc: Global, unit: &Unit, times: u32, target: Target) -> Result<u64, Stop>
     requires { IsWhole unit.now }
 {
@@ -58,7 +58,7 @@ fn live_nodes(alloc: Global, unit: &Unit, shape: &Shape) -> Result<u64, OutOfMem
     Ok(count)
 }
 
-// The nodes that a pass leaves. What they are promised to be is of no use here.
+// Returns the nodes that a pass leaves. What they are promised to be is of no use here.
 fn rewritten(
     alloc: Global,
     pass: &Pass,
@@ -87,7 +87,7 @@ fn nodes_left(alloc: Global, pass: &Pass, unit: &Unit, shape: &Shape) -> Result<
     }
 }
 
-// The same so many times.
+// The same this many times.
 fn pass_nodes(alloc: Global, pass: &Pass, unit: &Unit, times: u32) -> Result<u64, Stop> {
     let shape = check(alloc, unit)?;
     let mut left = 0;
@@ -97,7 +97,7 @@ fn pass_nodes(alloc: Global, pass: &Pass, unit: &Unit, times: u32) -> Result<u64
     Ok(left)
 }
 
-// The unit of a text. What it is promised to be is of no use here, but that it is whole.
+// Returns the unit of a text. What it is promised to be is of no use here, but that it is whole.
 fn unit_of(alloc: Global, text: &[u8]) -> Result<Unit, Stop>
     ensures { IfOk result IsWhole }
 {
@@ -110,7 +110,7 @@ fn unit_of(alloc: Global, text: &[u8]) -> Result<Unit, Stop>
     parse(alloc, text)
 }
 
-// What so many passes over a unit come to.
+// Returns the outcome of this many passes over a unit.
 fn pass_unit(
     alloc: Global,
     pass: &Pass,
@@ -126,7 +126,7 @@ fn pass_unit(
     }
 }
 
-// What so many passes over a text come to, which is read once.
+// Returns the outcome of this many passes over a text, which is read once.
 fn pass_text(
     alloc: Global,
     pass: &Pass,
@@ -140,7 +140,7 @@ fn pass_text(
     }
 }
 
-// What so many passes over a text come to, which is read each time where code is made of it.
+// Returns the outcome of this many passes over a text, which is read each time where code is made of it.
 fn pass_texts(
     alloc: Global,
     pass: &Pass,
@@ -158,8 +158,8 @@ fn pass_texts(
     Ok(bytes)
 }
 
-/// Makes so many passes over the text of parts with so many lines, at most 1,000,000, and tells what they come to: how many bytes of code, how many nodes are left,
-/// or at how many V0 is live.
+/// Makes this many passes over the text of parts with this many lines, at most 1,000,000, and says their outcomes: how many bytes of code, how many nodes are
+/// left, or at how many V0 is live.
 pub fn pass_lines(
     alloc: Global,
     pass: &Pass,

@@ -4,7 +4,7 @@ use lg_base::Stop;
 use lg_buf::CodeBuf;
 use std::alloc::Global;
 
-/// Emits pieces of so many bytes into a buffer for `size` bytes until it is full, and tells how many they are.
+/// Emits pieces of this many bytes into a buffer for `size` bytes until it is full, and returns how many they are.
 pub fn fill(alloc: Global, size: u32, length: u32) -> Result<u64, Stop> {
     let Ok(piece) = Vec::from_elem(alloc, 0x90u8, length as usize) else {
         return Err(Stop::OutOfMemory);

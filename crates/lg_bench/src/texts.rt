@@ -10,7 +10,7 @@ pub enum Lines {
     Numbered(&'static str, &'static str, &'static str, u32),
 }
 
-/// What stands in front of the lines, the lines, and what stands behind them.
+/// What is in front of the lines, the lines, and what is after them.
 pub type Parts = (&'static str, Lines, &'static str);
 
 // Appends the line of an index.
@@ -26,7 +26,7 @@ fn push_line(text: &mut String, lines: &Lines, index: u32) -> Result<(), AllocEr
     }
 }
 
-/// Appends the text of parts with so many lines, which are numbered from 1 on.
+/// Appends the text of parts with this many lines, which are numbered from 1 on.
 pub fn push_text(text: &mut String, parts: &Parts, lines: u32) -> Result<(), AllocError> {
     text.push_str(parts.0)?;
     for index in 0..lines {

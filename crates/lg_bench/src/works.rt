@@ -10,7 +10,7 @@ pub enum Pass {
     Nodes,
     /// The live registers of its nodes are found.
     Live,
-    /// Its nodes go through all four rewrites, one behind the other.
+    /// Its nodes go through all four rewrites, one after the other.
     All,
     /// Numbers that are known are folded.
     Fold,
@@ -26,7 +26,7 @@ pub enum Work {
     Emit,
 }
 
-// In front of lines of V0 and V1, and behind them.
+// In front of lines of V0 and V1, and after them.
 const FRONT: &str = "prolog movi %v0 0 movi %v1 0 l0: sti 0 %v0\n";
 
 const BEHIND: &str = "retr %v0 epilog\n";

@@ -1,4 +1,4 @@
--- The bytes of a region: one is taken out and put back, one is put behind them, and all are room again.
+-- The bytes of a region: one is taken out and put back, one is put after them, and all are room again.
 use Rattle.std.proofs.Common.{◌≡◌, ℕ, suc, ◌+◌, ◌<◌, List, [], ◌∷◌, ◌++◌, length, get_or, set, refl, sym, arith, zero-add, w8}
 use seplogic.Ra.Ura.{Ura}
 use base.Fraction.{full_share}
@@ -73,7 +73,7 @@ module _ {M : Type 1} {𝓤 : Ura M} (𝓛 : Logic 𝓤) (b : ℕ) where
       rewrite ! 0 (λ (k : ℕ). ‵ (byte (get_or xs i 0) k)) (sym (place_byte o i)) refl $
       by ! (puts_back (shares u8) full_share 𝓛 xs i 0 b o inside)
 
-  -- the same for a share of the bytes, of which one is read
+  -- the same for a share of the bytes, one of which is read
   module _ (q : Share) (xs : List ℕ) (i o : ℕ) where
     abbrev pub read_cell : Fml
     read_cell = fat q (ty_int w8) b (i + o) (vint w8 (get_or xs i 0))

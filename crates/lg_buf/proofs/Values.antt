@@ -1,4 +1,4 @@
--- The machine values of the structs: what is owned tells them, and is made of nothing.
+-- The machine values of the structs: what is owned gives them, and is made of nothing.
 use Rattle.std.proofs.Common.{◌≡◌, ℕ, zero, suc, ◌^◌, ◌<◌, List, [], ◌∷◌, ◌++◌, refl, ◌∙◌, w64}
 use seplogic.Ra.Ura.{Ura}
 use mir.Syntax.{Body}

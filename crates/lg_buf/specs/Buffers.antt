@@ -24,7 +24,7 @@ AreApart f g = (g.place + fix_len g.kind ≤ f.place) ⊎ (f.place + fix_len f.k
 abbrev pub IsOutside : ℕ → Fix → Type 0
 IsOutside i f = (i < f.place) ⊎ (f.place + fix_len f.kind ≤ i)
 
--- the fix ends within so many bytes
+-- the fix ends within this many bytes
 abbrev pub EndsWithin : ℕ → Fix → Type 0
 EndsWithin bytes f = f.place + fix_len f.kind ≤ bytes
 
@@ -54,7 +54,7 @@ pub record AreDone (labels : List (Option ℕ)) (fixes : List Fix) (n : ℕ) (ol
       → slice_index new i ≡ slice_index old i
   pub each : (k : ℕ) → k < n → (d : Fix) → IsDone labels old new (slice_index_or fixes k d)
 
--- fixes lie within so many bytes, name one of so many labels, and have no byte in common
+-- fixes lie within this many bytes, name one of n labels, and have no byte in common
 pub record AreSound (bytes labels : ℕ) (fixes : List Fix) : Type 0 where
   pub within : (k : ℕ) → k < length fixes → (d : Fix)
       → EndsWithin bytes (slice_index_or fixes k d) × ((slice_index_or fixes k d).label.0 < labels)

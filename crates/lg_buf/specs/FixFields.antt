@@ -19,7 +19,7 @@ fix_len RvJal = 4
 fix_len RvLuiAddi = 8
 fix_len RvAuipcJalr = 8
 
--- what stands in a word beside the field: of a branch of RV64, of a conditional branch and of a move of 16 bits of AArch64
+-- what is in a word beside the field: of a branch of RV64, of a conditional branch and of a move of 16 bits of AArch64
 abbrev pub branch_rest : ℕ → ℕ
 branch_rest word = part 0 7 word + part 12 13 word * 2 ^ 12
 
@@ -46,7 +46,7 @@ field_number RvLuiAddi bytes place =
 field_number RvAuipcJalr bytes place =
     (signed 524288 (part 12 20 (word_at bytes place)) *ℤ pos 4096) +ℤ signed 2048 (part 20 12 (word_at bytes (place + 4)))
 
--- what stands in the fix's words beside the field: of the first word, and of the second where there is one
+-- what is in the fix's words beside the field: of the first word, and of the second where there is one
 abbrev pub field_rest : FixKind → List ℕ → ℕ → ℕ × ℕ
 field_rest X86Rel8 bytes place = (0, 0)
 field_rest X86Rel32 bytes place = (0, 0)

@@ -19,7 +19,7 @@ origin_of RvJal place = place
 origin_of RvLuiAddi place = 0
 origin_of RvAuipcJalr place = place
 
--- to where it leads: a distance to the target, an address to the target behind the first address of code
+-- to where it leads: a distance to the target, an address to the target after the first address of code
 abbrev pub goal_of : FixKind → ℕ → ℕ
 goal_of X86Rel8 target = target
 goal_of X86Rel32 target = target

@@ -11,7 +11,7 @@ use denote.RawPtr.{Ptr, block_ptr, null_ptr}
 abbrev pub bytes_of : ℕ → Ty
 bytes_of n = ty_array (ty_int w8) n
 
--- the bytes xs lie at p, and behind them is room for n more
+-- the bytes xs lie at p, and after them is room for n more
 abbrev pub lie_before_room : Ptr → List ℕ → ℕ → Fml
 lie_before_room (block_ptr b o) xs n = fsep (row u8 full_share xs b o) (froom (bytes_of n) b (place 1 o (length xs)))
 lie_before_room null_ptr xs n = ffalse

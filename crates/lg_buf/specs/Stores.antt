@@ -14,6 +14,6 @@ pub record ChangesOnly (place count : ℕ) (old new : StoredBytes) : Type 0 wher
   pub others : (i : ℕ) → (i < place) ⊎ (place + count ≤ i)
       → slice_index new.items i ≡ slice_index old.items i
 
--- an empty list has room for so many
+-- an empty list has room for this many
 abbrev pub IsRoomFor : ℕ → Roomy → Type 0
 IsRoomFor n list = (list.items ≡ []) × (list.room ≡ n)

@@ -63,8 +63,8 @@ pub struct Finished {
 }
 
 impl CodeBuf {
-    /// An empty buffer for `size` bytes, `labels` labels, none of which is bound, and `fixes` fixes. It also takes the
-    /// room of what `finish` hands out.
+    /// Returns an empty buffer for `size` bytes, `labels` labels, none of which is bound, and `fixes` fixes. It also takes the
+    /// room of what `finish` allocates.
     pub fn new(alloc: Global, size: u32, labels: u32, fixes: u32) -> Result<CodeBuf, OutOfMemory>
         ensures bytes { IfOk result (λ b. (b.bytes ≡ []) × (b.size ≡ size) × (b.capacity ≡ size)) }
         ensures labels { IfOk result (λ b. b.labels ≡ replicate labels None) }
@@ -104,21 +104,21 @@ impl CodeBuf {
         })
     }
 
-    /// The allocator that the buffer was made with.
+    /// Returns the allocator that the buffer was made with.
     pub fn allocator(&self) -> Global
         ensures { result ≡ self.now.allocator }
     {
         self.allocator
     }
 
-    /// How many bytes the code may have: the size that the buffer was made with.
+    /// Returns how many bytes the code may have: the size that the buffer was made with.
     pub fn size(&self) -> u32
         ensures { result ≡ self.now.size }
     {
         self.size
     }
 
-    /// The place behind the last byte, which is the number of bytes.
+    /// Returns the place after the last byte, which is the number of bytes.
     pub fn here(&self) -> u32
         ensures value { result ≡ length self.now.bytes }
         ensures within { length self.now.bytes ≤ self.now.capacity }
@@ -133,7 +133,7 @@ impl CodeBuf {
         self.store.len()
     }
 
-    /// Appends bytes, or answers false and changes nothing exactly where fewer bytes are free.
+    /// Appends bytes, or returns false and changes nothing exactly where fewer bytes are free.
     #[must_use]
     pub fn emit(&mut self, piece: &[u8]) -> bool
         ensures fits { IsTrue result ↔ (length self.old.bytes + length piece.now ≤ self.old.capacity) }
@@ -146,7 +146,7 @@ impl CodeBuf {
         true
     }
 
-    /// Binds a label to the place behind the last byte. It is one of the buffer's labels, and it isn't bound.
+    /// Binds a label to the place after the last byte. It is one of the buffer's labels, and it isn't bound.
     pub fn bind(&mut self, label: Label32)
         requires label { label.0 < length self.old.labels }
         requires unbound { place_of self.old.labels label.0 ≡ None }
@@ -156,7 +156,7 @@ impl CodeBuf {
         self.labels[label.0 as usize] = Some(here);
     }
 
-    /// Binds a label to a place of the code, which is at most that behind the last byte. It is one of the buffer's labels, and it isn't bound.
+    /// Binds a label to a place of the code, which is at most that after the last byte. It is one of the buffer's labels, and it isn't bound.
     pub fn bind_at(&mut self, label: Label32, place: u32)
         requires label { label.0 < length self.old.labels }
         requires unbound { place_of self.old.labels label.0 ≡ None }
@@ -166,7 +166,7 @@ impl CodeBuf {
         self.labels[label.0 as usize] = Some(place);
     }
 
-    /// The place of a label, or None where it isn't bound. It is one of the buffer's labels.
+    /// Returns the place of a label, or `None` if it isn't bound. It is one of the buffer's labels.
     pub fn bound(&self, label: Label32) -> Option<u32>
         requires { label.0 < length self.now.labels }
         ensures { result ≡ place_of self.now.labels label.0 }
@@ -203,14 +203,14 @@ impl CodeBuf {
         patches::patch(&mut self.store, place, kind, target)
     }
 
-    /// Whether the label of each fix is bound, and each fix can lead to its place: whether the buffer can be finished.
+    /// Returns whether the label of each fix is bound, and each fix can lead to its place: whether the buffer can be finished.
     pub fn is_ready(&self) -> bool
         ensures { IsTrue result ↔ All (IsReady self.now.labels) self.now.fixes }
     {
         patches::are_ready(self.labels.as_slice(), self.fixes.as_slice())
     }
 
-    /// Patches each fix with the place of its label, and hands out the bytes and the places of the labels. The label
+    /// Patches each fix with the place of its label, and allocates the bytes and the places of the labels. The label
     /// of each fix is bound, and the fix can lead to its place.
     pub fn finish(self) -> Finished
         requires { All (IsReady self.labels) self.fixes }

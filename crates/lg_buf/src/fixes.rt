@@ -48,7 +48,7 @@ pub struct Fix {
 }
 
 impl FixKind {
-    /// How many bytes a fix of the kind has: 1, 4 or 8.
+    /// Returns how many bytes a fix of the kind has: 1, 4 or 8.
     pub fn size(self) -> u32
         ensures { result ≡ fix_len self }
     {
@@ -64,7 +64,7 @@ impl FixKind {
         }
     }
 
-    /// Whether a fix of the kind at a place can lead to a target: its field can hold the distance, or the address of
+    /// Returns whether a fix of the kind at a place can lead to a target: its field can hold the distance, or the address of
     /// the target. No bytes at all lead there where it can't.
     pub fn fits(self, place: u32, target: u32) -> bool
         ensures fits { IsTrue result ↔ Fits self place target }

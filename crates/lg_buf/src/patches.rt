@@ -153,7 +153,7 @@ fn patch_fitting(store: &mut Store, place: u32, kind: FixKind, target: u32)
     }
 }
 
-/// Makes the field of a kind at a place lead to a target, or answers false and changes nothing where it can't.
+/// Makes the field of a kind at a place lead to a target, or returns false and changes nothing where it can't.
 pub(crate) fn patch(store: &mut Store, place: u32, kind: FixKind, target: u32) -> bool
     requires { place + fix_len kind ≤ length store.old.items }
     ensures fits { IsTrue result ↔ Fits kind place target }
@@ -194,7 +194,7 @@ pub(crate) fn patch_all(store: &mut Store, labels: &[Option<u32>], fixes: &[Fix]
     }
 }
 
-// Whether the label of a fix is bound, and the fix can lead to its place.
+// Returns whether the label of a fix is bound, and the fix can lead to its place.
 fn is_ready(labels: &[Option<u32>], fix: &Fix) -> bool
     ensures { IsTrue result ↔ IsReady labels.now fix.now }
 {
@@ -204,7 +204,7 @@ fn is_ready(labels: &[Option<u32>], fix: &Fix) -> bool
     }
 }
 
-/// Whether the label of each fix is bound, and each fix can lead to its place.
+/// Returns whether the label of each fix is bound, and each fix can lead to its place.
 pub(crate) fn are_ready(labels: &[Option<u32>], fixes: &[Fix]) -> bool
     ensures { IsTrue result ↔ All (IsReady labels.now) fixes.now }
 {

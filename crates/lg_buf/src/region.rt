@@ -10,7 +10,7 @@ ghost use Rattle.lg_buf.specs.Ownership.{lie_before_room, bytes_of, lie_at, is_r
 use std::alloc::Allocator;
 use std::marker::{Model, PhantomData};
 
-/// Bytes, and behind them room for more.
+/// Bytes, and after them room for more.
 pub(crate) struct Region {
     ptr: *mut u8,
     size: usize,
@@ -61,7 +61,7 @@ impl Region {
         unsafe { alloc.deallocate(ptr, size, 1) }
     }
 
-    /// Writes a piece behind the bytes.
+    /// Writes a piece after the bytes.
     pub(crate) fn write(&mut self, end: usize, piece: &[u8])
         requires { (end ≡ length self.old.bytes) × (length piece.now ≤ self.old.spare) }
         ensures { (self.new.bytes ≡ self.old.bytes ++ piece.now) × (self.new.spare + length piece.now ≡ self.old.spare)
@@ -88,7 +88,7 @@ impl Region {
     }
 }
 
-// Copies bytes into room, behind which is more of it. A share of them is enough.
+// Copies bytes into room, after which is more of it. A share of them is enough.
 unsafe fn copy_bytes(from: *const u8, to: *mut u8, count: usize)
     ghost g: { Share × List ℕ × ℕ }
     requires count { length g.1 ≡ count }

@@ -10,7 +10,7 @@ use lg_base::{CodeBytes, Field, OutOfMemory};
 use std::alloc::Global;
 use std::marker::Model;
 
-/// Bytes, of which there can be a certain number. In a contract it is a `StoredBytes`.
+/// Bytes, up to a certain number. In a contract it is a `StoredBytes`.
 pub(crate) struct Store {
     alloc: Global,
     region: Region,
@@ -54,7 +54,7 @@ impl Drop for Store {
 }
 
 impl Store {
-    /// No bytes, with room for `size` of them. It also takes the room of what `into_bytes` hands out.
+    /// No bytes, with room for `size` of them. It also takes the room of what `into_bytes` allocates.
     pub(crate) fn new(alloc: Global, size: u32) -> Result<Store, OutOfMemory>
         ensures items { IfOk result (λ s. s.items ≡ []) }
         ensures size { IfOk result (λ s. s.size ≡ size) }
@@ -73,14 +73,14 @@ impl Store {
         })
     }
 
-    /// How many bytes there can be.
+    /// Returns how many bytes there can be.
     pub(crate) fn size(&self) -> u32
         ensures { result ≡ self.now.size }
     {
         self.size
     }
 
-    /// How many bytes there are.
+    /// Returns how many bytes there are.
     pub(crate) fn len(&self) -> u32
         ensures length { result ≡ length self.now.items }
         ensures within { length self.now.items ≤ self.now.size }
@@ -122,7 +122,7 @@ impl Store {
         self.region.set(place as usize, byte);
     }
 
-    /// Hands out the bytes, and gives their region back.
+    /// Allocates the bytes, and gives their region back.
     pub(crate) fn into_bytes(self) -> CodeBytes
         ensures { result.items ≡ self.items }
     {
@@ -141,7 +141,7 @@ impl Store {
 }
 
 impl Store {
-    /// How many more bytes there can be.
+    /// Returns how many more bytes there can be.
     pub(crate) fn free(&self) -> u32
         ensures { length self.now.items + result ≡ self.now.size }
     {

@@ -9,7 +9,7 @@ ghost use Rattle.lg_buf.specs.Fixing.{IsWithin, Fits};
 use crate::fixes::FixKind;
 use lg_base::Field;
 
-/// The bits of the distance as a signed number of `half + half` values, of which it is one.
+/// Returns the bits of the distance as a signed number among `half + half` values.
 pub(crate) fn distance(half: u64, from: u64, to: u32) -> u32
     requires half { half ≤ 2147483648 }
     requires even { half % 2 ≡ 0 }
@@ -27,7 +27,7 @@ pub(crate) fn distance(half: u64, from: u64, to: u32) -> u32
     }
 }
 
-/// The distance from a place to another one in two parts: how many times 4,096 as a signed number of 20 bits, rounded to the nearest, since the other
+/// Returns the distance from a place to another one in two parts: how many times 4,096 as a signed number of 20 bits, rounded to the nearest, since the other
 /// part is a signed number of 12 bits.
 pub(crate) fn far_distance(from: u32, to: u32) -> (u32, u32)
     requires { Fits FixKind.RvAuipcJalr from to }

@@ -1,4 +1,4 @@
--- Bytes below the stack pointer do not count where states stand for each other.
+-- Bytes below the stack pointer do not count where states correspond to each other.
 use Rattle.std.proofs.Common.{◌≡◌, ℕ, ◌+◌, ◌-◌, ◌<◌, ◌≤◌, ◌⊎◌, inl, inr, Bool, true, false, List, [], ◌∷◌, Option, Some, None, refl, sym, ap, ◌∙◌, subst, arith, ⊎_elim, length}
 use Rattle.std.specs.Prelude.{◌==◌, not}
 use Rattle.std.proofs.lemmas.Bool.{or_cases}
@@ -99,7 +99,7 @@ module _ (target : Target) (c : Code) (live : Frame → ℕ → Bool) (s : State
       mark = look.mark ∙ st.mark;
     }
 
-  -- ---- behind a `prolog`
+  -- ---- after a `prolog`
   inside-agrees : is_inside c s.at ≡ true → StatesAgree target c live s r S
   inside-agrees inside =
       let stack = stacked-running c.nodes c.shape s st.fits inside st.low in

@@ -46,7 +46,7 @@ module _ (l : LabelledNodes) (i : ℕ) (n : Node) (here : slice_get l.nodes i �
       others (op.Plain o) e = cc
       others o e = cc
 
--- the same, of what stands at a node
+-- the same, of what is at a node
 pub entry-prolog : (l : LabelledNodes) (i : ℕ) → is_prolog_at (slice_get l.nodes i) ≡ true → entry_at l i ≡ i
 entry-prolog l i e = by (slice_get l.nodes i) refl e
   where

@@ -58,7 +58,7 @@ call-leaps (op.Control control.Call last) h = refl
 call-leaps (op.Control control.Finish last) h = refl
 call-leaps o h = cc
 
--- a node that sinks is a `prolog` or leaps
+-- a node that sinks is a `prolog` or transfers control
 sinks-or-leaps : (o : Option Node) → sinks_at o ≡ true → (is_prolog_at o ≡ true) ⊎ (leaps_at o ≡ true)
 sinks-or-leaps None h = cc
 sinks-or-leaps (Some n) h = by (is_prolog n.op) refl
@@ -76,7 +76,7 @@ module _ {Q : Type 0} (P : Processor Q) (c : Code) (live : Frame → ℕ → Boo
   abbrev at : ℕ → Q
   at j = iter P.machine.step j q
 
-  -- a way of which each step runs
+  -- a way all of whose steps run
   record Running-way : Type 0 where
     pub way : Leads P c live after i next out q
     pub runs : (j : ℕ) → j < way.steps → P.machine.status (at j) ≡ Running

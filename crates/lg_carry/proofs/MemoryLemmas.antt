@@ -22,7 +22,7 @@ module _ {M Q : Type 0} (m : Machine M) (state : M → State) (P : Processor Q) 
   abbrev At : M → Q → Type 0
   At p q = StandAlike m state P c before p q
 
-  -- states that stand for each other share their memory
+  -- states that correspond to each other share their memory
   shares : (p : M) (q : Q) → At p q → AlikeInMemory state P p q
   shares p q h = record { bytes_are = λ a b lt e. h.1.state.memory.is a b e; mark_is = h.1.state.mark }
 

@@ -46,7 +46,7 @@ pub bottom-same : (c : Code) (at to : ℕ) (f : Frame) (gs : List Frame) → fun
 bottom-same c at to f [] same e = ap (is_entry c) same ∙ e
 bottom-same c at to f (g ∷ gs) same e = e
 
--- behind a `prolog` it is in the words of the frame
+-- after a `prolog` it is in the words of the frame
 pub behind-entry : (b : Bool) (target : Target) (c : Code) (at : ℕ) (f : Frame) (gs : List Frame) (q : Seen) → b ≡ true → OuterIs b target c at f gs q → IsBehindEntry target c at f gs q.bytes
 behind-entry b target c at f gs q e k = subst (λ x. OuterIs x target c at f gs q) e k
 

@@ -217,7 +217,7 @@ module _ {Q : Type 0} (P : Processor Q) where
     goes : (x : Q × ℕ) → P.machine.status x.0 ≡ Running → step' x ≡ (d x.1 (P.machine.step x.0), suc x.1)
     goes x e = ap (λ z. next_of P d z x) e
 
-    -- where a way has gone on, no other way from a state that stands there has ended
+    -- where a way has gone on, no other way from a state that is there has ended
     goes-on : (p r : Q) (w : SinksTo P c live after i next out p) (v : SinksTo P c live after i next out r) → v.way.steps < w.way.steps
         → (h : ℕ → Bool) → AreSame P h (iter P.machine.step v.way.steps p) (iter P.machine.step v.way.steps r) → ⊥
     goes-on p r w v lt h same = by next v.way.there
@@ -247,7 +247,7 @@ module _ {Q : Type 0} (P : Processor Q) where
             no-end z = cc
         by Undefined there = there
 
-    -- a state at the node from which so many steps lead to the same without changes, and at least one leads on
+    -- a state at the node from which this many steps lead to the same without changes, and at least one leads on
     record Origin (j : ℕ) : Type 0 where
       pub from : Q
       pub stands : Stands P c live s out from S
@@ -263,7 +263,7 @@ module _ {Q : Type 0} (P : Processor Q) where
     unfolding iter
     reaches j o = goes (at' j) (o.same.status ∙ (leads o.from o.stands).sinks.runs j o.more)
 
-    -- behind a step and the change behind it
+    -- after a step and the change after it
     behind-step : (j : ℕ) → (o : Origin j)
         → AreSame P (hidden_in P (iter P.machine.step (suc j) o.from)) (iter P.machine.step (suc j) o.from) (d (at' j).1 (P.machine.step (at' j).0))
     unfolding iter
@@ -435,7 +435,7 @@ module _ {Q : Type 0} (P : Processor Q) where
         (meets o.from o.low next (iter P.machine.step (suc j) o.from) (d (at' j).1 (P.machine.step (at' j).0)) (behind-step j o) (behind-seen j o)
         (subst (λ x. Meets P c live after o.from next out (iter P.machine.step x o.from)) last (leads o.from o.stands).way.there) (suc (at' j).1))
 
-    -- the last step, behind a front of quiet ones
+    -- the last step, after a front of quiet ones
     module _ (j : ℕ) (o : Origin j) (last : (leads o.from o.stands).way.steps ≡ suc j) (front : (k : ℕ) → k < j → IsQuiet k) where
       each : (T : ℕ → Type 0) → ((k : ℕ) → k < j → T k) → OrHost j o (T j) → (k : ℕ) → k < suc j → T k ⊎ IsHostStep c i (suc j) k (P.seen (at' k).0)
       unfolding OrHost
@@ -466,7 +466,7 @@ module _ {Q : Type 0} (P : Processor Q) where
             there = arrives j o last;
           }
 
-    -- from a state to which so many steps lead, the last one is found
+    -- from a state to which this many steps lead, the last one is found
     front-more : (j : ℕ) (o : Origin j) → ((k : ℕ) → k < j → IsQuiet k) → suc j < (leads o.from o.stands).way.steps → (k : ℕ) → k < suc j → IsQuiet k
     front-more j o front lt k l = ⊎_elim
         (λ (b : k < j). front k b)

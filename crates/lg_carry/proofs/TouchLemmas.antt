@@ -1,4 +1,4 @@
--- A step does the same whatever stands where it touches nothing: what the processors' instructions have in common.
+-- A step does the same whatever is where it touches nothing: what the processors' instructions have in common.
 use Rattle.std.proofs.Common.{◌≡◌, ℕ, zero, suc, ◌+◌, ◌/◌, ◌%◌, ◌^◌, ◌<◌, ◌≤◌, ◌⊎◌, inl, inr, ⊎_elim, Bool, true, false, List, ◌++◌, Option, Some, None, refl, sym, ap, ◌∙◌, arith}
 use Rattle.std.specs.Prelude.{◌==◌, if◌then◌else◌, is_some}
 use Rattle.std.proofs.lemmas.Bool.{cases_lt}
@@ -15,7 +15,7 @@ use Rattle.lg_carry.specs.Disturbed.{AreSame}
 use Rattle.lg_carry.specs.Processors.{Seen, IsSeen, Processor, Span}
 use Rattle.lg_carry.proofs.WordLemmas.{mapped-same, loaded-same}
 
--- a byte behind a store of the same bytes
+-- a byte after a store of the same bytes
 pub stored-same : (m n : ℕ → Option ℕ) (a w v j : ℕ) → n j ≡ m j → stored n a w v j ≡ stored m a w v j
 unfolding stored
 stored-same m n a zero v j h = h
@@ -29,7 +29,7 @@ untouched hidden from width a off on = ⊎_elim
     (λ (ge : from ≤ a). ⊎_elim (λ (lt : a < from + width). let z : true ≡ false = sym on ∙ off a ge lt in cc) (λ (out : from + width ≤ a). inr out) (cases_lt a (from + width)))
     (cases_lt a from)
 
--- the second effect, of a state, is the first one but for hidden bytes, and leaves these as they were; see tells what is seen of flags
+-- the second effect, of a state, is the first one but for hidden bytes, and leaves these as they were; see says what is seen of flags
 pub record Alike (see : Flags → Flags) (hidden : ℕ → Bool) (m : ℕ → Option ℕ) (e f : Effect CpuState) : Type 0 where
   pub progress : f.progress ≡ e.progress
   pub written : f.written ≡ e.written

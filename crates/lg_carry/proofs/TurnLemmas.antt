@@ -27,7 +27,7 @@ use Rattle.lg_carry.specs.Rows.{Rows}
 use Rattle.lg_carry.specs.TextNodes.{stands_inside}
 
 -- ---- operations
--- an operation that neither leaps nor begins a function moves no stack pointer
+-- an operation that neither transfers control nor begins a function moves no stack pointer
 pub record IsStill (target : Target) (o : Op) : Type 0 where
   pub moves : moves_stack target o ≡ false
   pub sinks : (is_prolog o || is_call o) ≡ false
@@ -102,7 +102,7 @@ return-no-sink o h = cc
 same-le : (m n : ℕ) → m ≡ n → m ≤ n
 same-le m n e = omega (arith, e)
 
--- where steps begin behind the first one, and so does one behind them, all do
+-- where steps begin after the first one, and so does one after them, all do
 pub ahead-more : {Q : Type 0} (P : Processor Q) (low m : ℕ) (q r : Q) → iter P.machine.step m q ≡ r → ((j : ℕ) → 0 < j → j < m → low < (P.seen (iter P.machine.step j q)).pc)
     → (0 < m → low < (P.seen r).pc) → (j : ℕ) → 0 < j → j < m + 1 → low < (P.seen (iter P.machine.step j q)).pc
 ahead-more P low m q r there ahead last j some lt = ⊎_elim
@@ -111,7 +111,7 @@ ahead-more P low m q r there ahead last j some lt = ⊎_elim
     subst (λ k. low < (P.seen (iter P.machine.step k q)).pc) e (subst (λ u. low < (P.seen u).pc) (sym there) (last (omega (arith, some, e)))))
     (cases_lt j m)
 
--- one step more sinks where it does not raise the stack pointer, and begins behind the first one
+-- one step more sinks where it does not raise the stack pointer, and begins after the first one
 pub sinks-last : {Q : Type 0} (P : Processor Q) (low m : ℕ) (q r u : Q) → Sinks P low m q → iter P.machine.step m q ≡ r → iter P.machine.step (m + 1) q ≡ u
     → stack_of P.target (P.seen u) ≤ stack_of P.target (P.seen r) → (0 < m → low < (P.seen r).pc) → Sinks P low (m + 1) q
 sinks-last P low m q r u h here there le ahead = record { falls = falls; ahead = ahead-more P low m q r here h.ahead ahead }
@@ -147,7 +147,7 @@ stack-outside Riscv64 = refl
 pub keeps-stack : {Q : Type 0} (P : Processor Q) (q : Q) → KeepsOutside P false q → stack_of P.target (P.seen (P.machine.step q)) ≡ stack_of P.target (P.seen q)
 keeps-stack P q k = k (stack_register P.target) (stack-outside P.target)
 
--- steps that move no stack pointer sink where they begin behind the first one
+-- steps that move no stack pointer sink where they begin after the first one
 pub still-sinks : {Q : Type 0} (P : Processor Q) (low high steps : ℕ) (q u : Q) → PassesIn P false low high steps q u
     → ((j : ℕ) → 0 < j → j < steps → low < (P.seen (iter P.machine.step j q)).pc) → Sinks P low steps q
 still-sinks P low high steps q u h ahead = record { falls = λ j lt. same-le _ _ (keeps-stack P (iter P.machine.step j q) (h.outside j lt)); ahead = ahead }
@@ -156,7 +156,7 @@ still-sinks P low high steps q u h ahead = record { falls = λ j lt. same-le _ _
 pub one-sinks : {Q : Type 0} (P : Processor Q) (low high : ℕ) (q u : Q) → PassesIn P false low high 1 q u → Sinks P low 1 q
 one-sinks P low high q u h = still-sinks P low high 1 q u h (λ j some lt. absurd (omega (arith, some, lt)))
 
--- steps that rise, one run of them behind the other
+-- steps that rise, one run of them after the other
 pub rises-join : {Q : Type 0} (P : Processor Q) (m n : ℕ) (q u : Q) → iter P.machine.step m q ≡ u → Rises P m q → Rises P n u → Rises P (m + n) q
 rises-join P m n q u there h k j lt = ⊎_elim
     (λ (l : j < m). h j l)
@@ -209,7 +209,7 @@ module _ {Q I : Type 0} (R : Rows Q I) where
   still-raises [] q h = tt
   still-raises (i ∷ is) q h = (same-le _ _ (sym (kept i q (h 0 i (omega arith)))), still-raises is (R.does i q) (λ k d lt. h (suc k) d (omega (arith, lt))))
 
-  -- behind them the stack pointer is what it was
+  -- after them the stack pointer is what it was
   pub still-done : (is : List I) (q : Q) → All (StaysOutside R false) is → stack_of R.processor.target (R.processor.seen (done R.does is q)) ≡ stack_of R.processor.target (R.processor.seen q)
   still-done [] q h = refl
   still-done (i ∷ is) q h = still-done is (R.does i q) (λ k d lt. h (suc k) d (omega (arith, lt))) ∙ kept i q (h 0 i (omega arith))

@@ -22,7 +22,7 @@ pub record Disturbs {Q : Type 0} (P : Processor Q) (q r : Q) : Type 0 where
   pub seen : IsSeen (P.seen q) → IsSeen (P.seen r)
   pub look : LooksSame (is_below P.target (stack_of P.target (P.seen q))) (P.seen q) (P.seen r)
 
--- a state that stands for a portable one does so whatever stands below its stack pointer
+-- a state that corresponds to a portable one does so whatever is below its stack pointer
 abbrev pub StatesAreKept : Type 0
 StatesAreKept =
     (target : Target) (c : Code) (live : Frame → ℕ → Bool) (s : State) (q r : Seen) (S : ℕ → Bool) → ArePassedFew c.nodes.nodes

@@ -1,5 +1,5 @@
--- A processor whose bytes below the stack pointer change in any way behind each step, as a signal's handler on its stack changes them; and when the
--- code of a node leads there where it leads without that.
+-- A processor whose bytes below the stack pointer change in any way after each step, as a signal's handler on its stack changes them; and when the code of a
+-- node leads there where it leads without that.
 use Rattle.std.specs.Prelude.{◌≡◌, ℕ, suc, ◌+◌, ◌<◌, ◌≤◌, ◌⊎◌, Bool, true, false, List, Option, None, length, slice_get}
 use Rattle.lg_base.specs.Runs.{Status, Running, Ended, Bad, Machine, IsMachine, iter}
 use Rattle.lg_base.specs.declared.target.Target.{Target}
@@ -24,13 +24,13 @@ pub record AreSame {Q : Type 0} (P : Processor Q) (hidden : ℕ → Bool) (q r :
 abbrev pub hidden_in : {Q : Type 0} → Processor Q → Q → ℕ → Bool
 hidden_in P q a = is_below P.target (stack_of P.target (P.seen q)) a
 
--- the step from a state goes in one way whatever stands at addresses that do not count: so it loads none of them, and what it stores there does not count
+-- the step from a state goes in one way whatever is at addresses that do not count: so it loads none of them, and what it stores there does not count
 abbrev pub Overlooks : {Q : Type 0} → Processor Q → Q → Type 0
 Overlooks {Q} P q = (r : Q) → IsSeen (P.seen r) → AreSame P (hidden_in P q) q r
     → AreSame P (hidden_in P q) (P.machine.step q) (P.machine.step r) × IsSeen (P.seen (P.machine.step r))
 
 -- ---- the processor
--- what changes the bytes that do not count, behind each step by its number
+-- what changes the bytes that do not count, after each step by its number
 abbrev pub IsDisturber : {Q : Type 0} → Processor Q → (ℕ → Q → Q) → Type 0
 IsDisturber {Q} P d = (n : ℕ) (q : Q) → Disturbs P q (d n q)
 
@@ -62,7 +62,7 @@ SteadyWaysLead {Q} P =
     → IsSteady P way.steps q → Leads (disturbed P d) c live after i next out (q, n)
 
 -- ---- a node whose code lets the stack pointer fall
--- the step from a state goes in one way whatever stands at some addresses, and leaves what stands there
+-- the step from a state goes in one way whatever is at some addresses, and leaves what is there
 abbrev pub LeavesAlone : {Q : Type 0} → Processor Q → (ℕ → Bool) → Q → Type 0
 LeavesAlone {Q} P hidden q = (r : Q) → IsSeen (P.seen r) → AreSame P hidden q r
     → AreSame P hidden (P.machine.step q) (P.machine.step r) × IsSeen (P.seen (P.machine.step r))
@@ -99,7 +99,7 @@ abbrev pub LiesApart : Code → ℕ → Type 0
 LiesApart c i =
     (k : ℕ) → k < length c.nodes.nodes → ((c.place k ≤ c.place i) ⊎ (c.place (i + 1) ≤ c.place k)) × (host_by_address (c.place k) ≡ None)
 
--- where the ways of a `prolog` or call from all states that stand for one sink, they lead there with such changes too
+-- where the ways of a `prolog` or call from all states that correspond to one sink, they lead there with such changes too
 abbrev pub SinkingWaysLead : {Q : Type 0} → Processor Q → Type 0
 SinkingWaysLead {Q} P =
     (d : ℕ → Q → Q) (c : Code) (live : Frame → ℕ → Bool) (after : State → ℕ → Bool) (i : ℕ) (s : State) (S : ℕ → Bool) (next : Outcome) (out : List ℕ)

@@ -28,14 +28,13 @@ pub record IsUnwritten (target : Target) (r : ℕ) : Type 0 where
   pub other : r ≢ stack_register target
   pub outside : (moves : Bool) → is_outside target moves r ≡ true
 
--- the processor has the memory of the meaning; where the run has ended it stands as that asks; and registers that no code writes hold what they held at the
--- entry
+-- the processor has the memory of the meaning; where the run has ended it is as that asks; and registers that no code writes hold what they held at the entry
 pub record AreAlike {Q : Type 0} (P : Processor Q) (c : Code) (r : mean.Run) (q : Q) : Type 0 where
   pub memory : SharesMemory r.state (P.seen q).bytes (P.seen q).mark
   pub ended : (e : Ending) → mean.ending_of r ≡ Some e → HasEnded P.target c e (P.seen q)
   pub unwritten : (x : ℕ) → IsUnwritten P.target x → (P.seen q).registers x ≡ c.outer x
 
--- where the code carries each node, the processor keeps pace with the meaning so, from all states that stand for each other
+-- where the code carries each node, the processor keeps pace with the meaning so, from all states that correspond to each other
 abbrev pub CarriedRunsEndAlike : {Q : Type 0} → Processor Q → Type 0
 CarriedRunsEndAlike {Q} P =
     (c : Code) (before : ℕ → ℕ → Bool) (p : mean.Run) (q : Q) → IsMachine P.machine → HostsKeep P → ((i : ℕ) → i < length c.nodes.nodes → Carries P c before i)

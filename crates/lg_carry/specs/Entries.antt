@@ -18,7 +18,7 @@ abbrev pub is_jump : Op → Bool
 is_jump (op.Control control.Jmp last_operand.Immediate) = true
 is_jump o = false
 
--- the node to which control comes from the first of these nodes, which stands at a number: over `.align`, and by a `jmpi`
+-- the node to which control comes from the first of these nodes, which is at a number: over `.align`, and by a `jmpi`
 unfoldable pub entry_from : List (Option Place) → List Node → ℕ → ℕ
 entry_from places [] k = k
 entry_from places (n ∷ ns) k =

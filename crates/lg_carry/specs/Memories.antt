@@ -28,7 +28,7 @@ abbrev pub CarriedRunsKeepPace : {M Q : Type 0} → Machine M → (M → State) 
 CarriedRunsKeepPace {M} {Q} m state P c before =
     (p : M) (q : Q) → StandAlike m state P c before p q → KeepsPace m P.machine (AlikeInMemory state P) p q
 
--- so it does from the start, where it stands for the state there
+-- so it does from the start, where it corresponds to the state there
 abbrev pub CodeKeepsPace : {Q : Type 0} → Processor Q → Type 0
 CodeKeepsPace {Q} P =
     (c : Code) (before : ℕ → ℕ → Bool) (sp : ℕ) (image args : List ℕ) (q : Q) → IsMachine P.machine → ((i : ℕ) → i < length c.nodes.nodes → Carries P c before i)

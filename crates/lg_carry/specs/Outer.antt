@@ -1,4 +1,4 @@
--- What the code keeps for who calls the entry: FP and V0 to V2, of which so many as the frames of such functions save.
+-- What the code keeps for who calls the entry: FP and as many of V0 to V2 as the frames of such functions save.
 use Rattle.std.specs.Prelude.{◌≡◌, ℕ, ◌+◌, ◌<◌, Bool, true, false, List, [], ◌∷◌, Option, ⊤, Some}
 use Rattle.lg_base.specs.Conventions.{portable_register, frame_register, stack_register, link_register}
 use Rattle.lg_base.specs.Layout.{stack_end, stop_address, frame_pointer, saved_word}
@@ -37,7 +37,7 @@ pub record IsBeforeEntry (target : Target) (c : Code) (at : ℕ) (registers : �
   pub enters : entry_at c.nodes at ≡ c.entry
   pub holds : HoldsOuter target c registers
 
--- and behind it
+-- and after it
 pub record IsBehindEntry (target : Target) (c : Code) (at : ℕ) (f : Frame) (gs : List Frame) (bytes : ℕ → Option ℕ) : Type 0 where
   pub entry : is_entry c (function_at c (bottom_at at f gs)) ≡ true
   pub keeps : KeepsOuter target c bytes
@@ -47,7 +47,7 @@ OuterIs true target c at f gs q = IsBehindEntry target c at f gs q.bytes
 OuterIs false target c at f (g ∷ gs) q = IsBehindEntry target c at f (g ∷ gs) q.bytes
 OuterIs false target c at f [] q = IsBeforeEntry target c at q.registers
 
--- ---- behind a return from the entry's frame
+-- ---- after a return from the entry's frame
 -- control is at the return address, the stack pointer is that of the call, FP and V0 to V2 hold what they held then, and the result is in its register
 pub record HasLeft (target : Target) (c : Code) (answer : Option ℕ) (q : Seen) : Type 0 where
   pub here : q.pc ≡ stop_address
@@ -55,7 +55,7 @@ pub record HasLeft (target : Target) (c : Code) (answer : Option ℕ) (q : Seen)
   pub outer : HoldsOuter target c q.registers
   pub result : HoldsResult target q.registers answer
 
--- behind an end by a host function control is still at its entry, so it is at no return address
+-- after an end by a host function control is still at its entry, so it is at no return address
 abbrev pub IsAtHost : Seen → Type 0
 IsAtHost q = (name : HostName) × (host_by_address q.pc ≡ Some name)
 

@@ -17,7 +17,7 @@ use Rattle.lg_meaning.specs.Texts.{step}
 use Rattle.lg_temp.specs.Agrees.{AgreesAt}
 use Rattle.lg_carry.specs.Disturbed.{IsDisturber, disturbed, Overlooks, IsAlike, LeavesAlone, IsSteady, Patches, SinksTo, LiesApart}
 
--- from a state that stands for one at node i, the way of the node is steady, or it is a `prolog` or call and those of all such states sink
+-- from a state that corresponds to one at node i, the way of the node is steady, or it is a `prolog` or call and those of all such states sink
 abbrev pub HoldsUp : {Q : Type 0} → Processor Q → Code → (Frame → ℕ → Bool) → (State → ℕ → Bool) → ℕ → State → (ℕ → Bool) → List ℕ → Q → Type 0
 HoldsUp {Q} P c live after i s S out q =
     ((way : Leads P c live after i (step c.nodes c.shape c.addresses s) out q) × IsSteady P way.steps q)
@@ -37,8 +37,8 @@ pub record Withstands {Q : Type 0} (P : Processor Q) (c : Code) (before : ℕ �
 abbrev pub IsInPart : Seen → Type 0
 IsInPart q = (code_base ≤ q.pc) × (q.pc < code_base + most_code)
 
--- each step of the processor in the code part goes in one way whatever stands where it touches nothing, and each leads from what looks the same to what looks
--- the same; and there is a state with any other bytes
+-- each step of the processor in the code part goes in one way whatever is where it touches nothing, and each leads from what looks the same to what looks the
+-- same; and there is a state with any other bytes
 pub record IsBlind {Q : Type 0} (P : Processor Q) : Type 0 where
   pub overlooks : (q : Q) → IsInPart (P.seen q) → TouchesAbove P q → Overlooks P q
   pub leaves : (hidden : ℕ → Bool) (q : Q) → IsInPart (P.seen q) → IsOff hidden (P.touches (P.seen q).pc (P.seen q).registers) → LeavesAlone P hidden q

@@ -4,7 +4,7 @@ use Rattle.lg_base.specs.Spaces.{number_at}
 use Rattle.lg_cells.specs.declared.cell.Cell.{Cell}
 use Rattle.lg_cells.specs.declared.cell.Cell.TheVariants.{Closed, Fresh, Holds}
 
--- the byte that stands in a cell
+-- the byte that is in a cell
 abbrev pub byte_in : Cell → Option ℕ
 byte_in Closed = None
 byte_in Fresh = None
@@ -45,24 +45,24 @@ byte_of m place = byte_in (cell_of m place)
 abbrev pub room_of : Marks → ℕ → Bool
 room_of m place = is_room (cell_of m place)
 
--- so many places from one on can be written
+-- this many places from one on can be written
 abbrev pub AreRooms : Marks → ℕ → ℕ → Type 0
 AreRooms m at width = (i : ℕ) → i < width → room_of m (at + i) ≡ true
 
--- so many places from one on have the mark of a byte that was written
+-- this many places from one on have the mark of a byte that was written
 abbrev pub AreWritten : List ℕ → ℕ → ℕ → Type 0
 AreWritten marks at width = (i : ℕ) → i < width → slice_index marks (at + i) ≡ 2
 
--- so many bytes that were written hold a number
+-- this many bytes that were written hold a number
 pub record IsWordIn (bytes marks : List ℕ) (at width word : ℕ) : Type 0 where
   pub all : AreWritten marks at width
   pub word_is : word ≡ number_at (slice_index bytes) at width
 
--- whether a number is one of so many from another on
+-- whether a number is one of n from another on
 abbrev pub within : ℕ → ℕ → ℕ → Bool
 within from count n = nat_le from n && nat_lt n (from + count)
 
--- marks, so many of which from a place on are this one
+-- marks, this many of which from a place on are this one
 abbrev pub with_marks : (ℕ → ℕ) → ℕ → ℕ → ℕ → ℕ → ℕ
 with_marks marks from count mark place = if within from count place then mark else marks place
 
@@ -70,11 +70,11 @@ with_marks marks from count mark place = if within from count place then mark el
 abbrev pub with_cell : (ℕ → Cell) → ℕ → Cell → ℕ → Cell
 with_cell cells at cell place = if place == at then cell else cells place
 
--- cells, so many of which from a place on are this one
+-- cells, this many of which from a place on are this one
 abbrev pub with_cells : (ℕ → Cell) → ℕ → ℕ → Cell → ℕ → Cell
 with_cells cells from count cell place = if within from count place then cell else cells place
 
--- cells, so many of which from a place on hold bytes
+-- cells, this many of which from a place on hold bytes
 abbrev pub with_bytes : (ℕ → Cell) → ℕ → List ℕ → ℕ → ℕ → Cell
 with_bytes cells from bytes count place = if within from count place then Holds (slice_index bytes (place - from)) else cells place
 

@@ -1,11 +1,11 @@
--- The memory of the portable machine: which bytes stand at which addresses, and which addresses can be written.
+-- The memory of the portable machine: which bytes are at which addresses, and which addresses can be written.
 use Rattle.std.specs.Prelude.{◌≡◌, ℕ, zero, suc, ◌+◌, ◌-◌, ◌<◌, ◌≤◌, ◌&&◌, Bool, true, false, length, if◌then◌else◌, Option, Some, None, List, slice_index}
 use Rattle.lg_cells.specs.declared.cell.Cell.{Cell}
 use Rattle.lg_cells.specs.declared.cell.Cell.TheVariants.{Closed}
 use Rattle.lg_cells.specs.Cells.{Marks, byte_in, is_room, cell_of, room_of, within}
 
--- the sizes of the data part and of the argument part, the first address of the heap that is not handed out, the part of the data, the
--- arguments and the heap, in this order, and the part of the stack, from its end down
+-- the sizes of the data part and of the argument part, the first address of the heap that is not allocated, the part of the data, the arguments and the heap,
+-- in this order, and the part of the stack, from its end down
 pub record Marked : Type 0 where
   pub data_size : ℕ
   pub args_size : ℕ
@@ -52,19 +52,19 @@ pub record IsMarked (m : Marked) : Type 0 where
   pub stack_most : m.stack.most ≡ 0x100000
   pub heap : (k : ℕ) → m.data_size + m.args_size ≤ k → k < m.data_size + m.args_size + (m.mark - 0x30000000) → room_of m.low k ≡ true
 
--- so many addresses have this cell
+-- this many addresses have this cell
 abbrev pub fills : (ℕ → Cell) → ℕ → ℕ → Cell → ℕ → Cell
 fills cells from count cell a = if within from count a then cell else cells a
 
--- bytes without those of so many addresses
+-- bytes without those of this many addresses
 abbrev pub without : (ℕ → Option ℕ) → ℕ → ℕ → ℕ → Option ℕ
 without bytes from count a = if within from count a then None else bytes a
 
--- so many addresses can be written besides
+-- this many addresses can be written besides
 abbrev pub opened : (ℕ → Bool) → ℕ → ℕ → ℕ → Bool
 opened room from count a = if within from count a then true else room a
 
--- so many addresses can be written no longer
+-- this many addresses can be written no longer
 abbrev pub closed : (ℕ → Bool) → ℕ → ℕ → ℕ → Bool
 closed room from count a = if within from count a then false else room a
 
@@ -78,7 +78,7 @@ first_bytes image args a =
 abbrev pub first_room : ℕ → ℕ → ℕ → Bool
 first_room d g a = if within 0x20000000 d a then true else within 0x28000000 g a
 
--- whether each of so many addresses can be written
+-- whether each of n addresses can be written
 unfoldable pub writable : (ℕ → Bool) → ℕ → ℕ → Bool
 writable room address zero = true
 writable room address (suc width) = room address && writable room (address + 1) width
@@ -88,7 +88,7 @@ pub record IsSameSize (old new : Marked) : Type 0 where
   pub data_same : new.data_size ≡ old.data_size
   pub args_same : new.args_size ≡ old.args_size
 
--- the place of the first of so many addresses, all of which lie in one part below the stack; None says nothing
+-- the place of the first of this many addresses, all of which lie in one part below the stack; None says nothing
 abbrev pub IsSpan : Marked → ℕ → ℕ → Option ℕ → Type 0
 IsSpan m a width None = Unit {0}
 IsSpan m a width (Some at) = (at + width ≤ m.data_size + m.args_size + (m.mark - 0x30000000))

@@ -3,19 +3,19 @@
 ghost use Rattle.std.specs.Prelude.{◌≡◌};
 ghost use Rattle.lg_cells.specs.Cells.{byte_in, is_room};
 
-/// What stands at an address.
+/// What is at an address.
 #[derive(Clone, Copy, Debug, PartialEq, Eq)]
 pub enum Cell {
-    /// No byte can stand there.
+    /// No byte can be there.
     Closed,
     /// A byte can be written there, and none was.
     Fresh,
-    /// This byte stands there.
+    /// This byte is there.
     Holds(u8),
 }
 
 impl Cell {
-    /// The byte that stands there.
+    /// Returns the byte that is there.
     pub fn byte(self) -> Option<u8>
         ensures { result ≡ byte_in self }
     {
@@ -25,7 +25,7 @@ impl Cell {
         }
     }
 
-    /// Whether a byte can be written there.
+    /// Returns whether a byte can be written there.
     pub fn is_room(self) -> bool
         ensures { result ≡ is_room self }
     {

@@ -44,7 +44,7 @@ impl Model for CellMemory {
     ghost invariant = { λ m. IsMarked record { data_size = m.data_size; args_size = m.args_size; mark = m.mark; low = m.low; stack = m.stack } };
 }
 
-// The place of an address below the stack, for parts of these sizes.
+// Returns the place of an address below the stack, for parts of these sizes.
 fn place(data_size: u64, args_size: u64, mark: u64, address: u64) -> Option<usize>
     requires data_part { data_size ≤ 0x1000000 }
     requires args { args_size ≤ 0x100000 }
@@ -62,7 +62,7 @@ fn place(data_size: u64, args_size: u64, mark: u64, address: u64) -> Option<usiz
     }
 }
 
-// The cell of an address of the stack.
+// Returns the cell of an address of the stack.
 fn stack_cell(stack: &Part, address: u64) -> Cell
     ensures { result ≡ stack_cell stack.now address }
 {
@@ -73,7 +73,7 @@ fn stack_cell(stack: &Part, address: u64) -> Cell
     }
 }
 
-// The part of the data and the arguments, with room for the heap after them.
+// Returns the part of the data and the arguments, with room for the heap after them.
 fn first_part(alloc: Global, image: &[u8], args: &[u8]) -> Result<Part, OutOfMemory>
     requires image { length image.now ≤ 0x1000000 }
     requires args { length args.now ≤ 0x100000 }
@@ -88,7 +88,7 @@ fn first_part(alloc: Global, image: &[u8], args: &[u8]) -> Result<Part, OutOfMem
 }
 
 impl CellMemory {
-    /// The memory of a run's start, with these data and argument parts, of at most 16,777,216 and 1,048,576 bytes: their bytes
+    /// Returns the memory of a run's start, with these data and argument parts, of at most 16,777,216 and 1,048,576 bytes: their bytes
     /// are written and can be written, and no other address can.
     pub fn new(alloc: Global, image: &[u8], args: &[u8]) -> Result<CellMemory, OutOfMemory>
         requires image { length image.now ≤ 0x1000000 }
@@ -108,7 +108,7 @@ impl CellMemory {
         })
     }
 
-    // The cell of an address.
+    // Returns the cell of an address.
     fn cell(&self, address: u64) -> Cell
         ensures { result ≡ cell_at self.now address }
     {
@@ -121,21 +121,21 @@ impl CellMemory {
         }
     }
 
-    // The byte that was written at an address.
+    // Returns the byte that was written at an address.
     fn byte(&self, address: u64) -> Option<u8>
         ensures { result ≡ byte_at self.now address }
     {
         self.cell(address).byte()
     }
 
-    // Whether an address can be written.
+    // Returns whether an address can be written.
     fn is_room(&self, address: u64) -> bool
         ensures { result ≡ room_at self.now address }
     {
         self.cell(address).is_room()
     }
 
-    // The cell so many addresses behind one; behind the last address there is none.
+    // Returns the cell this many addresses after one; after the last address there is none.
     fn cell_behind(&self, address: u64, count: u64) -> Cell
         requires { count < 8 }
         ensures value { result ≡ cell_at self.now (address + count) }
@@ -149,7 +149,7 @@ impl CellMemory {
         }
     }
 
-    // The place of the first of `width` addresses, if they all lie in one part below the stack. None says nothing.
+    // Returns the place of the first of `width` addresses, if they all lie in one part below the stack. None says nothing.
     #[inline(always)]
     fn span(&self, address: u64, width: u32) -> Option<usize>
         requires { width ≤ 8 }
@@ -168,7 +168,7 @@ impl CellMemory {
         None
     }
 
-    // The number in `width` bytes, cell by cell.
+    // Returns the number in `width` bytes, cell by cell.
     #[inline(never)]
     fn load_each(&self, address: u64, width: u32) -> Option<u64>
         requires { width ≤ 8 }
@@ -186,8 +186,8 @@ impl CellMemory {
         Some(value)
     }
 
-    /// The number in `width` bytes from an address on, the lowest byte first. None exactly where one of them was never written or
-    /// can't stand there, as bytes behind the last address. `width` is at most 8.
+    /// Returns the number in `width` bytes from an address on, the lowest byte first, or `None` exactly when one of them was never written or
+    /// can't be there, as bytes after the last address. `width` is at most 8.
     #[inline(always)]
     pub fn load(&self, address: u64, width: u32) -> Option<u64>
         requires { width ≤ 8 }
@@ -201,7 +201,7 @@ impl CellMemory {
         self.load_each(address, width)
     }
 
-    /// Whether each of `width` bytes from an address on can be written; bytes behind the last address can't. `width` is at most 8.
+    /// Returns whether each of `width` bytes from an address on can be written; bytes after the last address can't. `width` is at most 8.
     pub fn can_store(&self, address: u64, width: u32) -> bool
         requires { width ≤ 8 }
         ensures value { result ≡ writable (room_at self.now) address width }
@@ -313,7 +313,7 @@ impl CellMemory {
         self.stack.fill(end - count as usize, count as usize, mark);
     }
 
-    /// Lets so many addresses of the stack from one on be written; no byte stands there. They lie from 0x3FF00000 to
+    /// Lets this many addresses of the stack from one on be written; no byte is there. They lie from 0x3FF00000 to
     /// 0x40000000.
     pub fn open(&mut self, from: u64, count: u64)
         requires low { 0x3FF00000 ≤ from }
@@ -325,7 +325,7 @@ impl CellMemory {
         self.mark_stack(from, count, FRESH);
     }
 
-    /// Takes so many addresses of the stack from one on out of the memory, with their bytes. They lie from 0x3FF00000 to
+    /// Takes this many addresses of the stack from one on out of the memory, with their bytes. They lie from 0x3FF00000 to
     /// 0x40000000.
     pub fn close(&mut self, from: u64, count: u64)
         requires low { 0x3FF00000 ≤ from }

@@ -10,7 +10,7 @@ use lg_base::OutOfMemory;
 use std::alloc::Global;
 use std::marker::Model;
 
-/// No byte can stand at a place.
+/// No byte can be at a place.
 pub(crate) const CLOSED: u8 = 0;
 
 /// A byte can be written at a place, and none was.
@@ -48,7 +48,7 @@ fn mark_places(marks: &mut [u8], from: usize, count: usize, mark: u8)
     }
 }
 
-// Whether two places from one on have the mark of a byte that was written.
+// Returns whether two places from one on have the mark of a byte that was written.
 #[inline(always)]
 fn are_written_2(marks: &[u8], at: usize) -> bool
     requires { at + 2 ≤ length marks.now }
@@ -57,7 +57,7 @@ fn are_written_2(marks: &[u8], at: usize) -> bool
     word_2(marks, at) == 0x0202
 }
 
-// Whether four places from one on have the mark of a byte that was written.
+// Returns whether four places from one on have the mark of a byte that was written.
 #[inline(always)]
 fn are_written_4(marks: &[u8], at: usize) -> bool
     requires { at + 4 ≤ length marks.now }
@@ -66,7 +66,7 @@ fn are_written_4(marks: &[u8], at: usize) -> bool
     word_4(marks, at) == 0x0202_0202
 }
 
-// Whether eight places from one on have the mark of a byte that was written.
+// Returns whether eight places from one on have the mark of a byte that was written.
 #[inline(always)]
 fn are_written_8(marks: &[u8], at: usize) -> bool
     requires { at + 8 ≤ length marks.now }
@@ -75,7 +75,7 @@ fn are_written_8(marks: &[u8], at: usize) -> bool
     word_8(marks, at) == 0x0202_0202_0202_0202
 }
 
-// The number in `width` bytes, if the mark of each says that it was written.
+// Returns the number in `width` bytes, if the mark of each says that it was written.
 #[inline(always)]
 fn word_in(bytes: &[u8], marks: &[u8], at: usize, width: u32) -> Option<u64>
     requires long { length bytes.now ≡ length marks.now }
@@ -139,14 +139,14 @@ impl Part {
         })
     }
 
-    /// How many places there are.
+    /// Returns how many places there are.
     pub(crate) fn len(&self) -> usize
         ensures { result ≡ length self.now.marks }
     {
         self.marks.len()
     }
 
-    /// The cell at a place.
+    /// Returns the cell at a place.
     pub(crate) fn cell(&self, at: usize) -> Cell
         ensures { result ≡ cell_of self.now at }
     {
@@ -217,8 +217,7 @@ impl Part {
         let _ = self.marks.resize(len, WRITTEN);
     }
 
-    /// The number in `width` bytes from a place on, the lowest byte first, if all were written and `width` is 1, 2, 4 or 8. None says
-    /// nothing.
+    /// Returns the number in `width` bytes from a place on, the lowest byte first, if all were written and `width` is 1, 2, 4 or 8. None says nothing.
     #[inline(always)]
     pub(crate) fn word(&self, at: usize, width: u32) -> Option<u64>
         requires { at + width ≤ length self.now.marks }

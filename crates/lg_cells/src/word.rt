@@ -3,7 +3,7 @@
 ghost use Rattle.std.specs.Prelude.{◌≡◌, ◌+◌, ◌≤◌, ◌<◌, ◌^◌, length, slice_index};
 ghost use Rattle.lg_base.specs.Spaces.{number_at, written};
 
-// The number in two bytes from a place on.
+// Returns the number in two bytes from a place on.
 #[inline(always)]
 pub(crate) fn word_2(bytes: &[u8], at: usize) -> u64
     requires { at + 2 ≤ length bytes.now }
@@ -13,7 +13,7 @@ pub(crate) fn word_2(bytes: &[u8], at: usize) -> u64
     u64::from(bytes[at]) + 256 * u64::from(bytes[at + 1])
 }
 
-// The number in four bytes from a place on.
+// Returns the number in four bytes from a place on.
 #[inline(always)]
 pub(crate) fn word_4(bytes: &[u8], at: usize) -> u64
     requires { at + 4 ≤ length bytes.now }
@@ -23,7 +23,7 @@ pub(crate) fn word_4(bytes: &[u8], at: usize) -> u64
     word_2(bytes, at) + 0x1_0000 * word_2(bytes, at + 2)
 }
 
-// The number in eight bytes from a place on.
+// Returns the number in eight bytes from a place on.
 #[inline(always)]
 pub(crate) fn word_8(bytes: &[u8], at: usize) -> u64
     requires { at + 8 ≤ length bytes.now }

@@ -18,7 +18,7 @@ use Rattle.clap.specs.declared.builder.value_parser.ValueParser.{ValueParser}
 use Rattle.clap.specs.declared.parser.matches.ArgMatches.{ArgMatches}
 use Rattle.clap.proofs.CallerLemmas.{default_present, same_rules_by_id}
 
--- an id that is among the entries has a first entry, of which holds what holds of each
+-- an id that is among the entries has a first entry, and what holds of each holds of it
 entry_in : (P : Entry → Type 0) (xs : List Entry) (id : List ℕ) → All P xs → HasIn xs id
     → (e : Entry) × (find (λ e. bytes_eq e.0.now id) xs ≡ Some e) × (bytes_eq e.0.now id ≡ true) × P e
 entry_in P [] id all has = absurd (omega (arith, has.1))
@@ -36,7 +36,7 @@ entry_in P (x ∷ xs) id all has = go (bytes_eq x.0.now id) refl has (λ rest. e
         let rest = rec (later h.0 h.1 h.2 is) in
         (rest.0, rw is rest.1, rest.2, rest.3)
 
--- a list of values with one in it has a first, of which holds what holds of each
+-- a list of values with one in it has a first one, and what holds of each holds of it
 first_in : (P : Bor (List ℕ) → Type 0) (vs : List (Bor (List ℕ))) → 0 < length vs → All P vs → (v : Bor (List ℕ)) × (slice_get vs 0 ≡ Some v) × P v
 first_in P [] lt all = absurd (omega (arith, lt))
 first_in P (v ∷ vs) lt all = (v, refl, All-get_or P (v ∷ vs) 0 v (omega arith) all)

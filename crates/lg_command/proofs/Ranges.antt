@@ -23,7 +23,7 @@ use Rattle.lg_command.specs.Rules.{app, rules}
 use Rattle.lg_command.proofs.Defaults.{IsDefaulted, default_reads}
 use Rattle.lg_command.proofs.Numbers.{ranged_number}
 
--- the text stands at this place, and at no other
+-- the text is at this place, and at no other
 abbrev stands_alone : ℕ → Text → List Rule → Bool
 stands_alone k t [] = false
 stands_alone zero t (r ∷ rs) = not (list_any (λ s. bytes_eq s.id t) rs)

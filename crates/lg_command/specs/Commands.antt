@@ -13,8 +13,8 @@ use Rattle.lg_command.specs.declared.command.Command.{Command as Held}
 use Rattle.lg_command.specs.declared.command.Mode.{Mode}
 use Rattle.lg_command.specs.declared.command.Mode.TheVariants as mode
 
--- what is done with the text of a file, for which target, with at most so many steps and so many bytes of code, the seed of the generator, whether
--- the statistics are told, and the words of the arguments, which begin with the file
+-- what is done with the text of a file, for which target, with at most this many steps and this many bytes of code, the seed of the generator, whether the
+-- statistics are reported, and the words of the arguments, which begin with the file
 pub record Command : Type 0 where
   pub mode : Mode
   pub target : Target
@@ -43,7 +43,7 @@ are_digits (c ∷ cs) = nat_lt (digit_value c) 10 && are_digits cs
 abbrev pub is_number : Text → Bool
 is_number t = nat_lt 0 (length t) && are_digits t && nat_lt (digits_value 10 t) (2 ^ 64)
 
--- the number that a text writes, behind a plus or without one, and 0 where it writes none
+-- the number that a text writes, after a plus or without one, and 0 where it writes none
 abbrev pub number_of : Option Text → ℕ
 number_of None = 0
 number_of (Some t) = let digits = without_leading_plus t in if is_number digits then digits_value 10 digits else 0

@@ -107,7 +107,7 @@ fn with_figures<'a>(alloc: Global, command: Command<'a>) -> Result<Command<'a>, 
         .arg(stats_argument(alloc))
 }
 
-/// The command with its arguments.
+/// Returns the command with its arguments.
 pub fn command<'a>(alloc: Global) -> Result<Command<'a>, AllocError>
     ensures { IfOk result (λ c. app_of c ≡ app) }
 {

@@ -15,9 +15,9 @@ pub enum Mode {
     Gen,
     /// It is read as a listing, and the bytes that it is of are written.
     Back,
-    /// Its code runs, and then its portable meaning, and the steps of both are told line by line.
+    /// Its code runs, and then its portable meaning, and the steps of both are reported line by line.
     Profile,
-    /// Its portable meaning runs as with `Mean`, and where the text is refused or a step is undefined more is told.
+    /// Its portable meaning runs as with `Mean`, and where the text is refused or a step is undefined more is reported.
     Explain,
 }
 
@@ -34,7 +34,7 @@ pub struct Command<'a> {
     pub size: u32,
     /// The number from which the generator begins.
     pub seed: u64,
-    /// Whether a line tells the code's size and the run's steps.
+    /// Whether a line reports the code's size and the run's steps.
     pub stats: bool,
     /// The name of the text.
     pub file: &'a str,

@@ -10,7 +10,7 @@ use clap::ArgMatches;
 use lg_base::{OutOfMemory, Target};
 use std::alloc::Global;
 
-// The mode of a word.
+// Returns the mode of a word.
 fn mode_named(word: &str) -> Option<Mode>
     ensures { result ≡ mode_of word.now }
 {
@@ -36,7 +36,7 @@ pub fn mode(matches: &ArgMatches<'_>) -> Option<Mode>
     }
 }
 
-// The target of a word.
+// Returns the target of a word.
 fn target_named(word: &str) -> Option<Target>
     ensures { result ≡ target_of word.now }
 {
@@ -48,7 +48,7 @@ fn target_named(word: &str) -> Option<Target>
     }
 }
 
-/// The processor that code is made for, where it is one of the targets.
+/// Returns the processor that code is made for, where it is one of the targets.
 pub fn target(matches: &ArgMatches<'_>) -> Option<Target>
     ensures { result ≡ option_and_then target_of (first_of (codes "target") (rows_of (found_of matches.now))) }
 {
@@ -58,7 +58,7 @@ pub fn target(matches: &ArgMatches<'_>) -> Option<Target>
     }
 }
 
-// The number of an argument, and 0 where it has none.
+// Returns the number of an argument, and 0 where it has none.
 fn number(matches: &ArgMatches<'_>, id: &str) -> u64
     ensures { result ≡ number_of (one_of id.now (rows_of (found_of matches.now))) }
 {
@@ -68,14 +68,14 @@ fn number(matches: &ArgMatches<'_>, id: &str) -> u64
     }
 }
 
-/// The most steps of the run.
+/// Returns the most steps of the run.
 pub fn steps(matches: &ArgMatches<'_>) -> u64
     ensures { result ≡ number_of (one_of (codes "steps") (rows_of (found_of matches.now))) }
 {
     number(matches, "steps")
 }
 
-/// The most bytes of the code.
+/// Returns the most bytes of the code.
 pub fn size(matches: &ArgMatches<'_>) -> u32
     requires { AreInRange (rows_of (found_of matches.now)) }
     ensures { result ≡ number_of (one_of (codes "code") (rows_of (found_of matches.now))) }
@@ -83,28 +83,28 @@ pub fn size(matches: &ArgMatches<'_>) -> u32
     number(matches, "code") as u32
 }
 
-/// The number from which the generator begins.
+/// Returns the number from which the generator begins.
 pub fn seed(matches: &ArgMatches<'_>) -> u64
     ensures { result ≡ number_of (one_of (codes "seed") (rows_of (found_of matches.now))) }
 {
     number(matches, "seed")
 }
 
-// Whether a word is that of a flag that was given.
+// Returns whether a word is that of a flag that was given.
 fn is_told(word: Option<&str>) -> bool
     ensures { result ≡ is_told (option_map (λ s. s.now) word.entry) }
 {
     matches!(word, Some("true"))
 }
 
-/// Whether a line tells the code's size and the run's steps.
+/// Returns whether a line reports the code's size and the run's steps.
 pub fn stats(matches: &ArgMatches<'_>) -> bool
     ensures { result ≡ is_told (first_of (codes "stats") (rows_of (found_of matches.now))) }
 {
     is_told(matches.get_str("stats"))
 }
 
-/// The name of the text.
+/// Returns the name of the text.
 pub fn file<'a>(matches: &ArgMatches<'a>) -> &'a str
     ensures { result.now ≡ file_of (rows_of (found_of matches.now)) }
 {
@@ -124,7 +124,7 @@ fn push_words(arguments: &mut Vec<String>, words: &[&str], alloc: Global) -> Res
     Ok(())
 }
 
-// The words of the arguments with no words behind the name of the text.
+// Returns the words of the arguments with no words after the name of the text.
 fn first(alloc: Global, file: &str) -> Result<Vec<String>, OutOfMemory>
     ensures { IfOk result (λ a. texts_of a.items ≡ file.now ∷ []) }
 {
@@ -133,7 +133,7 @@ fn first(alloc: Global, file: &str) -> Result<Vec<String>, OutOfMemory>
     Ok(arguments)
 }
 
-/// The words of the arguments: the name of the text, and what follows it.
+/// Returns the words of the arguments: the name of the text, and what follows it.
 pub fn arguments(
     alloc: Global,
     file: &str,

@@ -11,7 +11,7 @@ use clap::ArgMatches;
 use clap::error::ErrorKind;
 use std::alloc::Global;
 
-/// What clap finds in the words: the values of the arguments, with the numbers in their ranges.
+/// Returns what clap finds in the words: the values of the arguments, with the numbers in their ranges.
 pub fn matches_of<'a>(alloc: Global, words: &'a Vec<String>) -> Result<ArgMatches<'a>, WordsStop>
     ensures ok { IfOk result (λ m. AreRows (texts_of words.entry.now.items) (rows_of (found_of m))) }
     ensures range { IfOk result (λ m. AreInRange (rows_of (found_of m))) }

@@ -11,7 +11,7 @@ use crate::matches::matches_of;
 use clap::ArgMatches;
 use std::alloc::Global;
 
-// The command that the values of the arguments give.
+// Returns the command that the values of the arguments give.
 fn command_of<'a>(alloc: Global, matches: &ArgMatches<'a>) -> Result<Command<'a>, WordsStop>
     requires { AreInRange (rows_of (found_of matches.now)) }
     ensures command { IfOk result (λ c. command_of (rows_of (found_of matches.now)) ≡ Some (shown c)) }
@@ -40,7 +40,7 @@ fn command_of<'a>(alloc: Global, matches: &ArgMatches<'a>) -> Result<Command<'a>
     })
 }
 
-/// What the words of the command ask for, the first of which is the program's name. They are read as one simple command of clap:
+/// Returns what the words of the command ask for, the first of which is the program's name. They are read as one simple command of clap:
 /// `lightning [--mode M] [--target T] [--steps N] [--code N] [--seed N] [--stats] [FILE [ARG]...]`. `Usage` comes only for words that ask for none.
 pub fn read_words<'a>(alloc: Global, words: &'a Vec<String>) -> Result<Command<'a>, WordsStop>
     ensures command { IfOk result (λ c. IsCommand (texts_of words.entry.now.items) (shown c)) }

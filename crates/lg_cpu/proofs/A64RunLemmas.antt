@@ -1,4 +1,4 @@
--- What stands in the code is executed, on AArch64.
+-- What is in the code is executed, on AArch64.
 use Rattle.std.proofs.Common.{◌-◌, ◌%◌, drop, ap, ◌∙◌, arith}
 use Rattle.std.specs.Prelude.{if◌then◌else◌}
 use Rattle.std.proofs.lemmas.Bool.{eq-eqb}

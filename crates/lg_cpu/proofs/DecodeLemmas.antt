@@ -1,4 +1,4 @@
--- Where no instruction's spelling begins what stands in the code, the step is a Decode fault.
+-- Where no instruction's spelling begins what is in the code, the step is a Decode fault.
 use Rattle.std.proofs.Common.{◌≡◌, ℕ, ◌-◌, ◌%◌, ◌≤◌, true, List, drop, length, Option, Some, None, refl, ap, ◌∙◌, arith}
 use Rattle.std.specs.Prelude.{IfSome, if◌then◌else◌}
 use Rattle.std.proofs.lemmas.Bool.{eq-eqb}

@@ -23,7 +23,7 @@ iter_more step n s = ap (λ k. iter step k s) (add-one n)
 pub starts-run : StartsAreRuns
 starts-run target code image args trash = sym (iter_none (machine_of target code trash).step (run_from target image args trash))
 
--- the steps made behind a step of a run that goes on
+-- the steps made after a step of a run that goes on
 made : (p : Progress) (n : ℕ) → steps_made (answer_of p) (counted (answer_of p) n) ≡ n + 1
 made Goes n = refl
 made (EndedWith status) n = refl
@@ -38,7 +38,7 @@ module _ (image args out : List ℕ) (old new : Shown) (taken taken' : Option (L
   abbrev e : Effect CpuState
   e = effect_of old.target old.code old.trash old.state
 
-  -- behind a step with the effect of the definition
+  -- after a step with the effect of the definition
   went : old.answer ≡ cpu.Went → new ≡ after_step e old → Appends taken taken' e.written → GoesOnAsRun image args out new taken taken'
   went going same told = record {
     bytes = e.written;

@@ -6,7 +6,7 @@ use Rattle.lg_base.specs.Spaces.{readable}
 use Rattle.lg_base.specs.Parts.{Parts, IsSized, byte_at, has, data_base, args_base, heap_base, stack_base}
 use Rattle.lg_cpu.specs.Starts.{start_bytes, HasRoom}
 
--- an address is one of so many from a base on
+-- an address is one of n from a base on
 abbrev within : ℕ → ℕ → ℕ → Bool
 within base len a = nat_le base a && nat_lt a (base + len)
 
@@ -39,7 +39,7 @@ memory-there p s a =
 there-more : (d r d' r' a : ℕ) → d' ≤ d → r' ≤ r → there d' r' a ≡ true → there d r a ≡ true
 there-more d r d' r' a less fewer e = grind (arith, less, fewer, e)
 
--- behind the first part, and behind the second, stands nothing
+-- after the first part, and after the second, is nothing
 there-first : (d r d' r' : ℕ) → d ≤ 0x1000000 → d < d' → (there d' r' (data_base + d) ≡ true → there d r (data_base + d) ≡ true) → d' ≤ d
 there-first d r d' r' most more keep = grind (arith, most, more, keep)
 

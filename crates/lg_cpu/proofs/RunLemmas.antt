@@ -1,4 +1,4 @@
--- Runs are those of a machine, and what stands in the code is executed.
+-- Runs are those of a machine, and what is in the code is executed.
 use Rattle.std.proofs.Common.{◌≡◌, ◌≢◌, ℕ, ◌+◌, ◌-◌, ◌%◌, ◌<◌, ◌≤◌, true, List, [], ◌++◌, length, drop, None, refl, sym, ap, ◌∙◌, arith, append-nil, length-append}
 use Rattle.std.specs.Prelude.{if◌then◌else◌}
 use Rattle.std.proofs.lemmas.Bool.{eq-eqb}
@@ -35,8 +35,8 @@ machine_is f = record {
 pub runs-machines : (code : List ℕ) (trash : ℕ) → IsMachine (machine (effect code trash))
 runs-machines code trash = machine_is (effect code trash)
 
--- ---- what stands in the code
--- no host entry stands in the code
+-- ---- what is in the code
+-- no host entry is in the code
 pub no_host : (pc : ℕ) → code_base ≤ pc → host_by_address pc ≡ None
 no_host pc low = grind (arith, low)
 

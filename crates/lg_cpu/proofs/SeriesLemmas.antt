@@ -35,7 +35,7 @@ then_at start here new n out at going is =
       trash = ap (λ s. s.trash) is ∙ at.trash;
     }
 
--- what is seen behind a step of the processor of a target
+-- what is seen after a step of the processor of a target
 module _ (p q : Inner) (k : ℕ) (taken taken' : Option (List ℕ)) (count count' : ℕ) where
   abbrev e : Effect CpuState
   e = effect_in p

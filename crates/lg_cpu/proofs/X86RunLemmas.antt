@@ -1,4 +1,4 @@
--- What stands in the code is executed, on x86-64.
+-- What is in the code is executed, on x86-64.
 use Rattle.std.proofs.Common.{◌-◌, drop, ap, ◌∙◌}
 use Rattle.std.specs.Prelude.{if◌then◌else◌}
 use Rattle.lg_base.specs.Layout.{code_base}

@@ -1,5 +1,5 @@
--- The AArch64 processor: what a step of it does, whatever the bytes are (Arm Architecture Reference Manual, "A64 Base Instruction Descriptions"). A
--- fetch that is not at a multiple of 4 faults with Align; accesses may stand anywhere.
+-- The AArch64 processor: what a step of it does, whatever the bytes are (Arm Architecture Reference Manual, "A64 Base Instruction Descriptions"). A fetch
+-- that is not at a multiple of 4 faults with Align; accesses may be anywhere.
 use Rattle.std.specs.Prelude.{ℕ, ◌-◌, ◌*◌, ◌/◌, ◌%◌, ◌==◌, Bool, true, false, nat_lt, List, drop, Option, Some, None, if◌then◌else◌}
 use Rattle.lg_base.specs.Fields.{word_of}
 use Rattle.lg_base.specs.Words.{add_words, mul_words}
@@ -88,7 +88,7 @@ imm_registers Subsi registers rd value = write registers rd value
 abbrev pub imm_effect : ImmOp → ℕ → ℕ → ℕ → CpuState → Effect CpuState
 imm_effect op rd a n q = computes q (imm_registers op q.registers rd (imm_value op a n)) (imm_flags op q.flags a n)
 
--- loads and stores at a number of accesses behind a register; a is the address
+-- loads and stores at an offset from a register, counted in accesses; a is the address
 abbrev pub scaled_width : ScaledOp → ℕ
 scaled_width Ldr64 = 8
 scaled_width Str64 = 8
@@ -119,7 +119,7 @@ abbrev pub unscaled_effect : UnscaledOp → ℕ → ℕ → CpuState → Effect 
 unscaled_effect Ldur rt a q = load_at q rt a 8 false
 unscaled_effect Stur rt a q = store_at q a 8 (read q.registers rt)
 
--- the address so many words away
+-- the address this many words away
 abbrev pub away : ℕ → ℕ → ℕ
 away pc words = add_words pc (mul_words words 4)
 
@@ -162,11 +162,11 @@ fetch code q =
 
 -- ---- host functions
 
--- the flags at the start, and behind a host function: the low four bits of the trash word, N, Z, C and V from high to low
+-- the flags at the start, and after a host function: the low four bits of the trash word, N, Z, C and V from high to low
 abbrev pub trash_flags : ℕ → Flags
 trash_flags trash = Nzcv (trash / 8 % 2 == 1) (trash / 4 % 2 == 1) (trash / 2 % 2 == 1) (trash % 2 == 1)
 
--- what a host function comes to; control returns to the link, register 30
+-- the outcome of a host function; control returns to the link, register 30
 abbrev pub host_effect : Answer → ℕ → CpuState → Effect CpuState
 host_effect answer trash q = returned answer (q.registers 30) (behind_call target.Aarch64 32 q.registers trash) (trash_flags trash) q
 

@@ -4,13 +4,13 @@ use Rattle.lg_cpu.specs.Steps.{Progress, Goes, EndedWith, Faulted}
 use Rattle.lg_cpu.specs.declared.answer.CpuStep.{CpuStep}
 use Rattle.lg_cpu.specs.declared.answer.CpuStep.TheVariants as cpu
 
--- the answer of a step behind which a run has come so far
+-- the answer of a step after which a run has come so far
 abbrev pub answer_of : Progress → CpuStep
 answer_of Goes = cpu.Went
 answer_of (EndedWith status) = cpu.Ended status
 answer_of (Faulted kind) = cpu.Fault kind
 
--- how far a run has come behind which a step answers this; a write that failed leaves the run where it was
+-- how far a run has come after which a step answers this; a write that failed leaves the run where it was
 abbrev pub progress_of : CpuStep → Progress
 progress_of cpu.Went = Goes
 progress_of (cpu.Ended status) = EndedWith status

@@ -1,4 +1,4 @@
--- Steps at the entries of host functions: the arguments that a call finds, what it comes to, and the registers behind it.
+-- Steps at the entries of host functions: the arguments that a call finds, its outcome, and the registers after it.
 use Rattle.std.specs.Prelude.{ℕ, zero, suc, ◌-◌, ◌==◌, ◌&&◌, not, true, nat_lt, List, [], ◌∷◌, ◌++◌, length, map, Option, Some, None, if◌then◌else◌}
 use Rattle.lg_base.specs.Words.{add_words}
 use Rattle.lg_base.specs.Spaces.{loaded, readable}
@@ -19,7 +19,7 @@ abbrev pub read_before : Option ℕ → List ℕ → List ℕ
 read_before None more = []
 read_before (Some word) more = word ∷ more
 
--- the words from an address on, at most so many and none behind one that can't be read
+-- the words from an address on, at most this many and none after one that can't be read
 unfoldable pub stack_words : (ℕ → Option ℕ) → ℕ → ℕ → List ℕ
 stack_words bytes address zero = []
 stack_words bytes address (suc more) = read_before (loaded bytes address 8) (stack_words bytes (add_words address 8) more)
@@ -38,7 +38,7 @@ put registers to value r = if r == to then value else registers r
 abbrev pub clobbered : Target → ℕ → (ℕ → ℕ) → ℕ → ℕ → ℕ
 clobbered target n registers trash r = if nat_lt r n && not (is_kept target r) then trash else registers r
 
--- behind a call the result register has the answer, and every other of the n registers that a call does not keep the
+-- after a call the result register has the answer, and every other of the n registers that a call does not keep the
 -- trash word
 abbrev pub behind_call : Target → ℕ → (ℕ → ℕ) → ℕ → ℕ → ℕ → ℕ
 behind_call target n registers trash answer = put (clobbered target n registers trash) (result_register target) answer
@@ -47,11 +47,11 @@ behind_call target n registers trash answer = put (clobbered target n registers 
 abbrev pub arguments_of : Target → ℕ → CpuState → List ℕ
 arguments_of target stack q = argument_words target q.registers q.bytes stack
 
--- what the function of an entry comes to, whose stack arguments lie from an address on
+-- the outcome of the function of an entry, whose stack arguments lie from an address on
 abbrev pub answer_at : Target → HostName → ℕ → CpuState → Answer
 answer_at target name stack q = host_of name (arguments_of target stack q) true (memory q.bytes (readable q.bytes) q.mark)
 
--- behind it: where it answers, control returns to an address, and the registers, by the answer, and the flags are these
+-- after it: where it answers, control returns to an address, and the registers, by the answer, and the flags are these
 abbrev pub returned : Answer → ℕ → (ℕ → ℕ → ℕ) → Flags → CpuState → Effect CpuState
 returned (Gives value changes mark bytes) back registers flags q =
     record {

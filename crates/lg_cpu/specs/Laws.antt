@@ -35,13 +35,13 @@ StepsAreThose = (old new : Shown) (out out' : List ℕ) (count count' : ℕ) (an
 abbrev pub StartsAreRuns : Type 0
 StartsAreRuns = (target : Target) (code image args : List ℕ) (trash : ℕ) → IsRunOf image args [] (shown_at_start target code image args trash)
 
--- what is seen behind a step, and the bytes that the step wrote
+-- what is seen after a step, and the bytes that the step wrote
 pub record GoesOnAsRun (image args out : List ℕ) (new : Shown) (taken taken' : Option (List ℕ)) : Type 0 where
   pub bytes : List ℕ
   pub written : Appends taken taken' bytes
   pub run : IsRunOf image args (out ++ bytes) new
 
--- one that is its run is so behind each step that is answered without a failed write
+-- one that is its run is so after each step that is answered without a failed write
 abbrev pub StepsFollowRuns : Type 0
 StepsFollowRuns = (image args out : List ℕ) (old new : Shown) (taken taken' : Option (List ℕ)) (count count' : ℕ) (answer : CpuStep)
     → IsRunOf image args out old → CpuSays old new taken taken' count count' answer → answer ≢ cpu.WriteFault → GoesOnAsRun image args out new taken taken'
@@ -62,7 +62,7 @@ X86ExecutesWhatStands = (code more : List ℕ) (trash : ℕ) (q : CpuState) (i :
     → drop (q.pc - code_base) code ≡ x86_spelling.spelling i ++ more
     → x86.effect code trash q ≡ x86.act i (length (x86_spelling.spelling i)) q
 
--- ---- and where none stands at an address of the code, the step is a Decode fault: on RV64IM, AArch64 and x86-64
+-- ---- and where none is at an address of the code, the step is a Decode fault: on RV64IM, AArch64 and x86-64
 abbrev pub AreBytes : List ℕ → Type 0
 AreBytes code = (k : ℕ) → slice_index code k < 256
 

@@ -115,7 +115,7 @@ fetch code q =
 
 -- ---- host functions
 
--- what a host function comes to; control returns to the link, register 1
+-- the outcome of a host function; control returns to the link, register 1
 abbrev pub host_effect : Answer → ℕ → CpuState → Effect CpuState
 host_effect answer trash q = returned answer (q.registers 1) (behind_call target.Riscv64 32 q.registers trash) NoFlags q
 

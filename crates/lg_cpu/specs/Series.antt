@@ -17,20 +17,20 @@ run_from s n = iter (machine_of s.target s.code s.trash).step n (run_of s [])
 abbrev pub effect_at : Shown → Effect CpuState
 effect_at s = effect_of s.target s.code s.trash s.state
 
--- where a processor stands after n steps of the run from another, with these bytes written
+-- where a processor is after n steps of the run from another, with these bytes written
 pub record IsAt (start here : Shown) (n : ℕ) (out : List ℕ) : Type 0 where
   pub stands : run_of here out ≡ run_from start n
   pub target : here.target ≡ start.target
   pub code : here.code ≡ start.code
   pub trash : here.trash ≡ start.trash
 
--- the last of at most so many steps, of which n went on as far as here: there is none, where all went on, and else its answer is another
+-- the last of at most this many steps, n of which went on as far as here: there is none, where all went on, and else its answer is another
 abbrev pub EndsWith : CpuStep → (n most : ℕ) → (here new : Shown) → Option (List ℕ) → Option (List ℕ) → ℕ → ℕ → Type 0
 EndsWith cpu.Went n most here new taken taken' count count' = (n ≡ most) × (new ≡ here) × (taken' ≡ taken) × (count' ≡ count)
 EndsWith answer n most here new taken taken' count count' = (n < most) × StepShows (effect_at here) here new taken taken' count count' answer
 
--- at most so many steps of a run that goes on: some of them went on, and then the most were taken or one came to another answer. Taken and
--- count are those of the sink, before and after
+-- at most this many steps of a run that goes on: some of them went on, and then the most were taken or one came to another answer. Taken and count are those
+-- of the sink, before and after
 pub record Advances (old new : Shown) (most : ℕ) (taken taken' : Option (List ℕ)) (count count' : ℕ) (answer : CpuStep) : Type 0 where
   pub went : ℕ
   pub here : Shown
@@ -47,6 +47,6 @@ abbrev pub AdvancesAfter : CpuStep → Shown → Shown → (most : ℕ) → Opti
 AdvancesAfter cpu.Went old new most taken taken' count count' answer = Advances old new most taken taken' count count' answer
 AdvancesAfter before old new most taken taken' count count' answer = (answer ≡ before) × (new ≡ old) × (taken' ≡ taken) × (count' ≡ count)
 
--- the same of the processor of a target, behind so many steps
+-- the same of the processor of a target, after this many steps
 abbrev pub going_on : Inner → ℕ → Shown
 going_on p steps = shown_of p cpu.Went steps

@@ -1,4 +1,4 @@
--- What a step of any of the processors comes to, and runs of steps. S is the processor's state.
+-- The outcome of a step of any of the processors, and runs of steps. S is the processor's state.
 use Rattle.std.specs.Prelude.{ℕ, ◌==◌, List, [], ◌++◌, if◌then◌else◌}
 use Rattle.lg_base.specs.Layout.{stop_address}
 use Rattle.lg_base.specs.Runs.{Status, Running, Ended, Bad, Machine}

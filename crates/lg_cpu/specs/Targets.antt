@@ -18,7 +18,7 @@ effect_of X86_64 code trash s = x86.effect code trash s
 effect_of Aarch64 code trash s = a64.effect code trash s
 effect_of Riscv64 code trash s = rv.effect code trash s
 
--- the state at the start of a run with so many arguments, over the bytes of a memory and a heap mark
+-- the state at the start of a run with this many arguments, over the bytes of a memory and a heap mark
 abbrev pub begins : Target → (count trash : ℕ) → (ℕ → Option ℕ) → ℕ → CpuState
 begins X86_64 count trash bytes mark = x86.begins count trash bytes mark
 begins Aarch64 count trash bytes mark = a64.begins count trash bytes mark

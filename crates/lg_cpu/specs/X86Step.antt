@@ -46,7 +46,7 @@ pub record Scene : Type 0 where
 abbrev pub scene_of : CpuState → Scene
 scene_of q = record { registers = q.registers; flags = q.flags; bytes = q.bytes }
 
--- ---- the instructions behind which the next one follows: what they make of a scene, None where they fault
+-- ---- the instructions after which the next one follows: what they make of a scene, None where they fault
 
 abbrev pub with_register : Scene → ℕ → ℕ → Flags → Scene
 with_register s to value flags = record { registers = put s.registers to value; flags = flags; bytes = s.bytes }
@@ -102,7 +102,7 @@ store_width St32 = 4
 store_width St16 = 2
 store_width St8 = 1
 
--- a store, behind which the registers are these
+-- a store, after which the registers are these
 abbrev pub stores : Scene → (ℕ → ℕ) → ℕ → ℕ → ℕ → Option Scene
 stores s registers address width value =
     if mapped s.bytes address width then Some (record { registers = registers; flags = s.flags; bytes = stored s.bytes address width value }) else None
@@ -211,7 +211,7 @@ does (JumpReg Callr rm) next q = goes_with q (q.registers rm) Memory (pushes nex
 does (Bare Ret) next q = returns q (loaded q.bytes (q.registers 4) 8)
 does i next q = goes_with q next (fault_of i) (made i (scene_of q))
 
--- an instruction of so many bytes
+-- an instruction of this many bytes
 abbrev pub act : Instr → ℕ → CpuState → Effect CpuState
 act i len q = does i (add_words q.pc len) q
 
@@ -224,11 +224,11 @@ abbrev pub fetch : List ℕ → CpuState → Effect CpuState
 fetch code q = if in_code code q.pc then decoded (front_of (drop (q.pc - code_base) code)) q else faults q Fetch
 
 -- ---- host functions
--- behind a host function that answered this, which has popped the return address
+-- after a host function that answered this, which has popped the return address
 abbrev pub popped : (ℕ → ℕ) → ℕ → ℕ → ℕ → ℕ
 popped registers trash answer = put (behind_call target.X86_64 16 registers trash answer) 4 (add_words (registers 4) 8)
 
--- what a host function comes to; control returns to the word that was at rsp, and rsp rises
+-- the outcome of a host function; control returns to the word that was at rsp, and rsp rises
 abbrev pub host_effect : Answer → ℕ → ℕ → CpuState → Effect CpuState
 host_effect answer link trash q = returned answer link (popped q.registers trash) no_flags q
 
@@ -237,7 +237,7 @@ abbrev pub takes_al : HostName → ℕ → Bool
 takes_al Printf a = nat_le (a % 256) 8
 takes_al name a = true
 
--- stack arguments lie behind the return address
+-- stack arguments lie after the return address
 abbrev pub enter_with : HostName → ℕ → CpuState → Option ℕ → Effect CpuState
 enter_with name trash q None = faults q Host
 enter_with name trash q (Some link) = host_effect (answer_at target.X86_64 name (add_words (q.registers 4) 8) q) link trash q

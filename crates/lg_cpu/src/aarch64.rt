@@ -35,7 +35,7 @@ pub struct Aarch64 {
     pub(crate) board: Board,
 }
 
-// How many bytes a load or store moves.
+// Returns how many bytes a load or store moves.
 fn scaled_width(op: ScaledOp) -> u64
     ensures width { result ≡ scaled_width op }
     ensures known { result ≤ 8 }
@@ -302,7 +302,7 @@ impl Aarch64 {
         self.next()
     }
 
-    // Loads so many bytes, extended by their sign or with zeros.
+    // Loads this many bytes, extended by their sign or with zeros.
     #[inline(always)]
     fn load(&mut self, register: u8, address: u64, width: u32, signed: bool) -> CpuStep
         requires inside { code_base ≤ self.old.pc }
@@ -346,7 +346,7 @@ impl Aarch64 {
         self.go(target)
     }
 
-    // The address so many words away.
+    // Returns the address this many words away.
     #[inline(always)]
     fn away(&self, words: i32) -> u64
         ensures { result ≡ away (a64_state self.now).pc (word_of words) }

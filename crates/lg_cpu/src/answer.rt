@@ -2,7 +2,7 @@
 
 use lg_base::FaultKind;
 
-/// What one step comes to.
+/// The outcome of one step.
 #[derive(Clone, Copy, Debug, PartialEq, Eq)]
 pub enum CpuStep {
     /// The run goes on.

@@ -17,7 +17,7 @@ use lg_host::HeapMark;
 use lg_io::Sink;
 use std::alloc::Global;
 
-/// A processor with its memory and its code, before or behind any number of steps.
+/// A processor with its memory and its code, before or after any number of steps.
 #[derive(Drop)]
 pub struct Cpu {
     processor: Processor,
@@ -25,7 +25,7 @@ pub struct Cpu {
     steps: u64,
 }
 
-// Whether a step that comes to this is counted.
+// Returns whether a step that results in this is counted.
 #[inline(always)]
 fn is_counted(answer: CpuStep) -> bool
     ensures { result ≡ is_counted answer }
@@ -41,11 +41,11 @@ impl Cpu {
     ghost use Rattle.lg_cpu.specs.Series.{AdvancesAfter};
     ghost use Rattle.lg_cpu.specs.Starts.{HasRoom};
 
-    /// A processor of a target before its first step: at the first address of the code, with the data part and the argument part in
+    /// Returns a processor of a target before its first step: at the first address of the code, with the data part and the argument part in
     /// memory and zeros elsewhere. It finds the number of the argument part's strings and the part's address in the registers
     /// of the first two arguments, and the trash word in every register that no convention sets. On x86-64 no flag is defined, and
-    /// the stop address stands at the stack pointer. The code has at most 67,108,864 bytes, the data part at most 16,777,216, and the
-    /// argument part at most 1,048,576. No other call takes memory.
+    /// the stop address is at the stack pointer. The code has at most 67,108,864 bytes, the data part at most 16,777,216, and the argument part at most
+    /// 1,048,576. No other call takes memory.
     pub fn new(
         alloc: Global,
         target: Target,
@@ -78,9 +78,9 @@ impl Cpu {
         })
     }
 
-    /// Starts again, and takes no memory: behind it the processor is as `new` makes one of its target, code and trash word with this data
-    /// part and argument part, whether its run was over or not. False exactly where a part has more bytes than the one in memory has now,
-    /// and then nothing changes. A part with fewer bytes leaves only so many: of runs that differ the one with the longest parts comes first.
+    /// Starts again, and takes no memory: after it the processor is as `new` makes one of its target, code and trash word with this data part and argument
+    /// part, whether its run was over or not. False exactly where a part has more bytes than the one in memory has now, and then nothing changes. A part with
+    /// fewer bytes leaves only this many: of runs that differ the one with the longest parts comes first.
     pub fn again(&mut self, image: &DataImage, args: &ArgImage) -> bool
         ensures done { IsTrue result ↔ HasRoom (shown self.old).state.bytes image.now args.now }
         ensures changed { shown self.new ≡ (if result then started_again (shown self.old) image.now args.now else shown self.old) }
@@ -94,7 +94,7 @@ impl Cpu {
         true
     }
 
-    /// The program counter.
+    /// Returns the program counter.
     #[inline(always)]
     pub fn pc(&self) -> u64
         ensures { result ≡ (shown self.now).state.pc }
@@ -102,14 +102,14 @@ impl Cpu {
         self.processor.pc()
     }
 
-    /// How many instructions and host steps went or ended.
+    /// Returns how many instructions and host steps went or ended.
     pub fn steps(&self) -> u64
         ensures { result ≡ (shown self.now).steps }
     {
         self.steps
     }
 
-    /// Takes one step, and answers what it comes to: the run goes on, has ended with a status, or can't take the step, which
+    /// Takes one step, and returns its outcome: the run goes on, has ended with a status, or can't take the step, which
     /// then changes nothing. Where a write failed a part of the output may have been written, and nothing else changed.
     /// After an answer other than `Went` the same is answered again, and nothing changes. Fewer than `u64::MAX` steps were
     /// taken.
@@ -144,9 +144,9 @@ impl Cpu {
         answer
     }
 
-    /// Takes steps until one comes to another answer than `Went`, and at most so many; answers what the last one came to, and `Went` where
-    /// there was none. It is as so many calls of `step`, in less time: after an answer other than `Went` the same is answered again, and
-    /// nothing changes. Fewer than `u64::MAX` steps are then taken in all.
+    /// Takes steps until one gives another answer than `Went`, and at most this many; answers what the last one came to, and `Went` where there was none. It
+    /// does what this many calls of `step`, in less time: after an answer other than `Went` the same is answered again, and nothing changes. Fewer than
+    /// `u64::MAX` steps are then taken in all.
     #[inline(never)]
     pub fn run<O: Sink>(&mut self, most: u64, out: &mut O) -> CpuStep
         requires { (shown self.old).steps + most < 2 ^ 64 }
@@ -163,7 +163,7 @@ impl Cpu {
         answer
     }
 
-    /// What a register reads as. Its number is below 32.
+    /// Returns what a register reads as. Its number is below 32.
     pub fn register(&self, number: u8) -> u64
         requires { number < 32 }
         ensures { result ≡ reads (shown self.now).target (shown self.now).state.registers number }
@@ -181,7 +181,7 @@ impl Cpu {
         self.processor.set_register(number, value);
     }
 
-    /// The flags; RV64 has none.
+    /// Returns the flags; RV64 has none.
     pub fn flags(&self) -> Flags
         ensures { result ≡ (shown self.now).state.flags }
     {
@@ -211,7 +211,7 @@ impl Cpu {
         self.processor.set_code(code);
     }
 
-    /// The number in `width` bytes of the memory from an address on, the lowest byte first. None exactly where not all bytes
+    /// Returns the number in `width` bytes of the memory from an address on, the lowest byte first, or `None` exactly when not all bytes
     /// lie in one part. `width` is 1, 2, 4 or 8.
     pub fn load(&self, address: u64, width: u32) -> Option<u64>
         requires { (width ≡ 1) ⊎ (width ≡ 2) ⊎ (width ≡ 4) ⊎ (width ≡ 8) }

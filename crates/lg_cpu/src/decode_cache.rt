@@ -227,8 +227,8 @@ impl<I: Decodable> DecodeCache<I> {
         self.code = code;
     }
 
-    /// Returns the instruction at an address, and its length in bytes, from the cache or decoded now. None exactly where the address is not
-    /// in the code, is not aligned, or no instruction begins there.
+    /// Returns the instruction at an address, and its length in bytes, from the cache or decoded now, or `None` exactly when the address is not in the code,
+    /// is not aligned, or no instruction begins there.
     #[inline(always)]
     pub fn find(&mut self, pc: u64) -> Option<(I, u32)>
         ensures found { IfSome result (λ found. IsDecodedAt I.front I.valid I.aligned self.old pc found.0 found.1) }

@@ -14,8 +14,8 @@ pub fn starts_are_those_of_the_run()
     ensures { StartsAreRuns }
 {}
 
-/// A processor that is the run of its code after as many steps as it has made is so behind its next step, unless a write fails: after n steps
-/// that went or ended it is the run after n steps.
+/// A processor that is the run of its code after as many steps as it has made is so after its next step, unless a write fails: after n steps that went or
+/// ended it is the run after n steps.
 pub fn steps_follow_the_run()
     ensures { StepsFollowRuns }
 {}
@@ -55,7 +55,7 @@ pub fn faults_change_nothing()
     ensures { FaultsChangeNothing }
 {}
 
-/// Registers that hold words hold words behind a step, memory that holds bytes holds bytes, and the heap mark stays in the
+/// Registers that hold words hold words after a step, memory that holds bytes holds bytes, and the heap mark stays in the
 /// heap.
 pub fn words_stay_words()
     ensures { StaysSound }

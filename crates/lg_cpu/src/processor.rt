@@ -37,7 +37,7 @@ impl Processor {
     ghost use Rattle.lg_cpu.specs.Series.{Advances, going_on};
     ghost use Rattle.lg_cpu.specs.Starts.{HasRoom};
 
-    /// The processor of a target before its first step, with the number of arguments.
+    /// Returns the processor of a target before its first step, with the number of arguments.
     pub fn new(
         alloc: Global,
         target: Target,
@@ -68,7 +68,7 @@ impl Processor {
         }
     }
 
-    /// Puts a data part and an argument part into the memory and zeros elsewhere, and nothing of the heap is handed out; takes no
+    /// Puts a data part and an argument part into the memory and zeros elsewhere, and nothing of the heap is allocated; takes no
     /// memory. False exactly where one of them is longer than the part in memory is now, and then nothing changes.
     pub fn renew(&mut self, image: &[u8], args: &[u8]) -> bool
         ensures done { IsTrue result ↔ HasRoom (inner self.old).state.bytes image.now args.now }
@@ -81,7 +81,7 @@ impl Processor {
         }
     }
 
-    /// Stands before the first step again, with the number of arguments, over the memory that it has.
+    /// Is before the first step again, with the number of arguments, over the memory that it has.
     pub fn begin(&mut self, count: u64)
         requires stack { mapped (inner self.old).state.bytes (return_word stack_end) 8 ≡ true }
         ensures { inner self.new ≡ begun (inner self.old) count }
@@ -107,7 +107,7 @@ impl Processor {
         }
     }
 
-    /// Takes steps of a run that has taken so many, until one comes to another answer than `Went`, and at most so many more.
+    /// Takes steps of a run that has taken this many, until one gives another answer than `Went`, and at most this many more.
     pub fn run<O: Sink>(&mut self, steps: u64, most: u64, out: &mut O) -> Advanced
         requires { steps + most < 2 ^ 64 }
         ensures says { Advances (going_on (inner self.old) steps) (shown_of (inner self.new) result.answer result.steps) most
@@ -121,7 +121,7 @@ impl Processor {
         }
     }
 
-    /// The program counter.
+    /// Returns the program counter.
     #[inline(always)]
     pub fn pc(&self) -> u64
         ensures { result ≡ (inner self.now).state.pc }
@@ -133,7 +133,7 @@ impl Processor {
         }
     }
 
-    /// What a register reads as. Its number is below 32.
+    /// Returns what a register reads as. Its number is below 32.
     pub fn read(&self, number: u8) -> u64
         requires { number < 32 }
         ensures { result ≡ reads (inner self.now).fixed.target (inner self.now).state.registers number }
@@ -161,7 +161,7 @@ impl Processor {
         }
     }
 
-    /// The flags; RV64 has none.
+    /// Returns the flags; RV64 has none.
     pub fn flags(&self) -> Flags
         ensures { result ≡ (inner self.now).state.flags }
     {
@@ -209,7 +209,7 @@ impl Processor {
         }
     }
 
-    /// The number in `width` bytes of the memory from an address on, the lowest byte first. None exactly where not all bytes
+    /// Returns the number in `width` bytes of the memory from an address on, the lowest byte first, or `None` exactly when not all bytes
     /// lie in one part. `width` is 1, 2, 4 or 8.
     pub fn load(&self, address: u64, width: u32) -> Option<u64>
         requires { (width ≡ 1) ⊎ (width ≡ 2) ⊎ (width ≡ 4) ⊎ (width ≡ 8) }

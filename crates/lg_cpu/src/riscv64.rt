@@ -26,7 +26,7 @@ pub struct Riscv64 {
     pub(crate) board: Board,
 }
 
-// How many bytes a store writes.
+// Returns how many bytes a store writes.
 fn store_width(op: StoreOp) -> u32
     ensures width { result ≡ store_width op }
     ensures known { (result ≡ 1) ⊎ (result ≡ 2) ⊎ (result ≡ 4) ⊎ (result ≡ 8) }
@@ -153,7 +153,7 @@ impl Riscv64 {
         self.next()
     }
 
-    // Loads so many bytes, extended by their sign or with zeros.
+    // Loads this many bytes, extended by their sign or with zeros.
     #[inline(always)]
     fn load(&mut self, register: u8, address: u64, width: u32, signed: bool) -> CpuStep
         requires inside { code_base ≤ self.old.pc }

@@ -57,7 +57,7 @@ pub struct Advanced {
     pub steps: u64,
 }
 
-/// Takes steps of a run that has taken so many, until one comes to another answer than `Went`, and at most so many more.
+/// Takes steps of a run that has taken this many, until one gives another answer than `Went`, and at most this many more.
 pub fn advance<P: Stepping, O: Sink>(
     processor: &mut P,
     steps: u64,
@@ -87,7 +87,7 @@ pub fn advance<P: Stepping, O: Sink>(
     }
 }
 
-// How many steps went or ended behind one that comes to this.
+// Returns how many steps went or ended after one that results in this.
 fn behind(answer: CpuStep, steps: u64) -> u64
     requires { steps < 2 ^ 64 - 1 }
     ensures { result ≡ counted answer steps }

@@ -51,7 +51,7 @@ fn store_width(op: StoreOp) -> u32
     }
 }
 
-// The number in so many bytes, extended by its sign or with zeros.
+// Returns the number in this many bytes, extended by its sign or with zeros.
 fn extended(value: u64, width: u32, signed: bool) -> u64
     requires { (width ≡ 1) ⊎ (width ≡ 2) ⊎ (width ≡ 4) ⊎ (width ≡ 8) }
     ensures { result ≡ extended_by signed width value }
@@ -356,7 +356,7 @@ impl X86_64 {
         }
     }
 
-    // Loads so many bytes, extended by their sign or with zeros.
+    // Loads this many bytes, extended by their sign or with zeros.
     #[inline(always)]
     fn load_wide(
         &mut self,

@@ -24,7 +24,7 @@ module _ (l m : LabelledNodes) (to : IsFoldedTo l m) where
   bound : (x : ℕ) (p : Place) → IsBound l x p → IsBound m x p
   bound x p e = ap (λ ps. slice_get ps x) to.places ∙ e
 
-  -- each node stands for the one of its number
+  -- each node corresponds to the one of its number
   pub fold-origin : (origin : List ℕ) → origin ≡ origins (λ i. true) (length l.nodes) → IsOrigin IsFoldedNode l m origin
   fold-origin origin e = subst (IsOrigin IsFoldedNode l m) (sym e) record {
     count = all-count (length l.nodes) ∙ sym to.count;

@@ -172,7 +172,7 @@ module _ (t : Text) (s : State) (known : Reg → Option ℕ) (are : AreKnown s k
           (subst (λ xs. node_step t (as_immediate (record n { op = op.Branch b.name last_operand.Register; operands = xs }) v) (op.Branch b.name last_operand.Immediate) s ≡ node_step t (record n { op = op.Branch b.name last_operand.Register; operands = xs }) (op.Branch b.name last_operand.Register) s) (sym b.operands_are)
           (ap (λ o. need (value t.addresses s b.first) (λ x. need o (λ y. branch (holds b.name x y) t.places s b.to))) (sym (are b.second v b.second_is))))
 
--- ---- what is known behind a node
+-- ---- what is known after a node
 writes-register : (x : Operand) → admits form.Write x ≡ true → (q : Reg) × (x ≡ operand.Reg q) × (q ≢ Fp)
 writes-register (operand.Reg R0) e = (R0, refl, λ z. cc)
 writes-register (operand.Reg R1) e = (R1, refl, λ z. cc)
@@ -388,7 +388,7 @@ module _ (l m : LabelledNodes) (shape new_shape : TextShape) (A : List ℕ) (is 
   at-form : (i : ℕ) (n : Node) → slice_get l.nodes i ≡ Some n → InForm n
   at-form = formed_at l shape A is (well_shaped l is.accepted) (has_functions l is.accepted) formed
 
-  -- nothing is known behind a leap, and at a label
+  -- nothing is known after a transfer of control, and at a label
   fresh-behind : (i : ℕ) (n : Node) → slice_get l.nodes i ≡ Some n → leaps n.op ≡ true → known_before m (i + 1) ≡ none_known
   unfolding known_before
   fresh-behind i n e h =

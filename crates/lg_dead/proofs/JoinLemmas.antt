@@ -1,4 +1,4 @@
--- Rewritings one behind the other.
+-- Rewritings one after the other.
 use Rattle.std.proofs.Common.{◌≡◌, ℕ, zero, suc, ◌+◌, ◌-◌, ◌<◌, ◌≤◌, Bool, true, false, not, List, [], Option, Some, None, ◌∷◌, length, map, refl, sym, ap, ◌∙◌, subst, arith, Ok, Err}
 use Rattle.std.specs.Prelude.{if◌then◌else◌, Result, IfOk, slice_get, slice_index}
 use Rattle.std.proofs.lemmas.List.{length-map, get_or-map}
@@ -83,7 +83,7 @@ still known n e = by (made known n.op n.operands) (last_known known n.op n.opera
 pub folded-still : (old middle : Node) → IsFoldedNode old middle → is_droppable old.op ≡ false → is_droppable middle.op ≡ false
 folded-still old middle f e = ap (λ (x : Node). is_droppable x.op) f.1 ∙ still f.0 old e
 
--- ---- behind folding, which leaves every node in its place
+-- ---- after folding, which leaves every node in its place
 module _ (l m n : LabelledNodes) (origin : List ℕ) (to : IsFoldedTo l m) where
   pub folded-origin : IsOrigin IsSameNode m n origin → IsOrigin IsFoldedNode l n origin
   folded-origin o = record {

@@ -40,7 +40,7 @@ no e = cc
 nothing : (v : ℕ) → ◌≡◌ {A = Option ℕ} None (Some v) → ⊥
 nothing v e = cc
 
--- a label stands at the new number of its node
+-- a label is at the new number of its node
 pub label-kept : (l : LabelledNodes) (keep : ℕ → Bool) (targets : ℕ → Option Label) (k : ℕ) → is_labelled l.places k ≡ true → is_labelled (rewritten l keep targets).places (new_number keep k) ≡ true
 label-kept l keep targets k e =
     let x = label-there l.places k e in

@@ -1,4 +1,5 @@
--- What is known of registers: behind a node, and that a number is known of one where the last node of the straight run that writes it moves the number into it.
+-- What is known of registers: after a node, and that a number is known of one where the last node of the straight run that writes it moves the number into
+-- it.
 use Rattle.std.proofs.Common.{◌≡◌, ◌≢◌, ⊎_elim, ◌⊎◌, inl, inr, ℕ, zero, suc, ◌+◌, ◌-◌, ◌<◌, ◌≤◌, Bool, true, false, ◌||◌, List, [], ◌∷◌, Option, Some, None, length, refl, sym, ap, ◌∙◌, subst, arith}
 use Rattle.std.specs.Prelude.{if◌then◌else◌, slice_get}
 use Rattle.std.specs.List.{All}
@@ -34,7 +35,7 @@ or-false : (b : Bool) → (b || false) ≡ b
 or-false true = refl
 or-false false = refl
 
--- ---- what is known behind a node
+-- ---- what is known after a node
 movi-writes : (n : Node) (q : Reg) (v : ℕ) (r : Reg) → n.op ≡ op.Plain plain.Movi → n.operands ≡ operand.Reg q ∷ operand.Number v ∷ [] → is_written n r ≡ is_same q r
 movi-writes n q v r eo ex =
     subst (λ o. is_written (record n { op = o }) r ≡ is_same q r) (sym eo)
@@ -59,7 +60,7 @@ unwritten-known known n r w = by (moved_number n.op n.operands r) refl
     by None e = ap (λ b. if b then None else known r) w
     by (Some v) e = absurd (no (sym (moved-written n r v e) ∙ w))
 
--- what is known behind a node is so by the node, or was so before it
+-- what is known after a node is so by the node, or was so before it
 pub behind-cases : (known : Reg → Option ℕ) (n : Node) (r : Reg) (v : ℕ) → known_behind known n r ≡ Some v
     → (moved_number n.op n.operands r ≡ Some v) ⊎ ((is_written n r ≡ false) × (known r ≡ Some v))
 behind-cases known n r v e = by (moved_number n.op n.operands r) refl e
@@ -110,7 +111,7 @@ no-fp-known l (suc i) = by (is_labelled l.places (suc i)) (slice_get l.nodes i) 
     by true o h = refl
     by false o h = at o h
 
--- nothing is known at a label, and behind a leap
+-- nothing is known at a label, and after a transfer of control
 pub fresh-at : (l : LabelledNodes) (k : ℕ) → is_labelled l.places k ≡ true → known_before l k ≡ none_known
 unfolding known_before
 fresh-at l zero h = refl
@@ -123,7 +124,7 @@ known-step l i n e free h =
     ap (λ b. if b then none_known else known_at (known_before l i) (slice_get l.nodes i)) free
     ∙ ap (known_at (known_before l i)) e ∙ ap (λ b. if b then none_known else known_behind (known_before l i) n) h
 
--- something is known only where no label is, behind a node that goes on
+-- something is known only where no label is, after a node that goes on
 pub record Came (l : LabelledNodes) (i : ℕ) (r : Reg) (v : ℕ) : Type 0 where
   pub node : Node
   pub here : slice_get l.nodes i ≡ Some node

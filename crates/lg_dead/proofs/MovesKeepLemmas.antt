@@ -64,7 +64,7 @@ alone r y (same r1) = refl
 alone r y (up r1 x y1 e z h) = absurd (none-reg x e)
 alone r y (down r1 x y1 e z h) = absurd (none-reg r e)
 
--- what a source behind another node says
+-- what a source after another node says
 record Source (f : Reg → Option Reg) (n : Node) (r x : Reg) : Type 0 where
   into : is_written n r ≡ false
   from : is_written n x ≡ false
@@ -94,7 +94,7 @@ other-written f n r y (same r1) w = refl
 other-written f n r y (up r1 x y1 e z h) w = let s = source-behind f n r x e in absurd (no (sym w ∙ s.into))
 other-written f n r y (down r1 x y1 e z h) w = let s = source-behind f n x r e in absurd (no (sym w ∙ s.from))
 
--- behind a move
+-- after a move
 module _ (f : Reg → Option Reg) (n : Node) (k : Move) (into : is_written n k.into ≡ true) (from : is_written n k.from ≡ false) (only : (r : Reg) → is_written n r ≡ true → k.into ≡ r) where
   abbrev g : Reg → Option Reg
   g = behind_move f n k
@@ -314,7 +314,7 @@ module _ (l : LabelledNodes) (shape new_shape : TextShape) (is : IsShapeOf l sha
       by true h = inl (leap h (way_of n.op) g)
       by false h = fall (subst (λ (w : Way). GoesBy l shape i n w k) (falls-next n.op h) g) h (is_labelled l.places (i + 1)) refl
 
-  -- some register that holds the same word is needed behind the rewriting
+  -- some register that holds the same word is needed after the rewriting
   abbrev Stands : ℕ → Reg → Type 0
   Stands i r = (y : Reg) × Linked (sources_before l i) r y × IsNeeded m new_shape y (nu i)
 
@@ -368,7 +368,7 @@ module _ (l : LabelledNodes) (shape new_shape : TextShape) (is : IsShapeOf l sha
       itself Fp = refl
 
   module _ (i k : ℕ) (n : Node) (e : slice_get l.nodes i ≡ Some n) (c : IsSuccessor l shape i k) where
-    -- behind a move that stays
+    -- after a move that stays
     module _ (s : keep i ≡ true) (b : Move) (mv : move_of n.op n.operands ≡ Some b) (ne : is_idle (sources_before l i) (Some b) ≡ false) where
       into : is_written n b.into ≡ true
       into = move-writes n b mv b.into ∙ same-itself b.into (not-fp n b (at-form i n e) mv)

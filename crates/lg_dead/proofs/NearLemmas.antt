@@ -70,7 +70,7 @@ and-right : (b c : Bool) → (b && c) ≡ true → c ≡ true
 and-right true c e = e
 and-right false c e = cc
 
--- a register that stands at such a place is read
+-- a register that is at such a place is read
 named-at : (fs : List Form) (xs : List Operand) (i : ℕ) (q : Reg) → admit fs xs ≡ true → takes (slice_index_or fs i form.Write) ≡ true → slice_index_or xs i (operand.Number 0) ≡ operand.Reg q → is_register q (operand.Reg q) ≡ true → names access.Read fs xs q ≡ true
 named-at [] [] i q a t e r = cc
 named-at [] (x ∷ xs) i q a t e r = cc
@@ -84,7 +84,7 @@ takes-last : (last : LastOperand) → takes (last_form last) ≡ true
 takes-last last_operand.Register = refl
 takes-last last_operand.Immediate = refl
 
--- a register that is written stands first, or second
+-- a register that is written is first, or second
 abbrev none-writes : List Form → Bool
 none-writes [] = true
 none-writes (f ∷ fs) = (if is_for access.Write f then false else true) && none-writes fs

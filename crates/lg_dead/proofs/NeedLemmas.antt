@@ -120,7 +120,7 @@ module _ (l : LabelledNodes) (shape : TextShape) (stays : ℕ → Bool) (needs :
     flows : (q : Reg) → these q ≡ true → names access.Write (forms_of n.op) n.operands q ≡ false → (is_call n.op && nat_lt (number_of q) 3) ≡ false → needs s.at q ≡ true
     flows q e w c = or-cases (needs s.at q) (is_written n q) e (or-of (names access.Write (forms_of n.op) n.operands q) (is_call n.op) (nat_lt (number_of q) 3) w c)
 
-    -- behind a call its caller's registers are needed only where they are before
+    -- after a call its caller's registers are needed only where they are before
     saves : is_call n.op ≡ true → (r : Reg) → needs (s.at + 1) r ≡ true → is_kept r ≡ true → needs s.at r ≡ true
     saves c r e k = are.passes s.at (s.at + 1) n r here record { node = n; here = here; goes = subst (λ (w : Way). GoesBy l shape s.at n w (s.at + 1)) (sym (calls-next n.op c)) (refl, are.inside (s.at + 1) r e) } e
         (or-of (names access.Write (forms_of n.op) n.operands r) (is_call n.op) (nat_lt (number_of r) 3) (call-writes n.op c n.operands r) (ap (λ b. is_call n.op && b) (not-small r k) ∙ and-false (is_call n.op)))

@@ -129,7 +129,7 @@ or-false : (b : Bool) → (b || false) ≡ b
 or-false true = refl
 or-false false = refl
 
--- what a source behind another node says
+-- what a source after another node says
 record Source (f : Reg → Option Reg) (n : Node) (r x : Reg) : Type 0 where
   into : is_written n r ≡ false
   from : is_written n x ≡ false
@@ -161,7 +161,7 @@ module _ (n : Node) (k : Move) (e : move_of n.op n.operands ≡ Some k) where
   move-leaps : leaps n.op ≡ false
   move-leaps = ap leaps there.0
 
-  -- behind a move only what it does not write is known
+  -- after a move only what it does not write is known
   move-known : (known : Reg → Option ℕ) (r : Reg) → known_behind known n r ≡ (if is_written n r then None else known r)
   move-known known r = ap (λ o. or_else o (if is_written n r then None else known r)) (ap (λ o. moved_number o n.operands r) there.0)
 

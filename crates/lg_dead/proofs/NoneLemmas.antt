@@ -42,7 +42,7 @@ none_behind k n r none e =
     here : known_of k r ≡ None
     here = ap (λ b. if b then held_in k r else None) none
 
--- ---- what is known behind a node
+-- ---- what is known after a node
 or_if : (b : Bool) (v : ℕ) (k : Option ℕ) → (if b then Some v else k) ≡ or_else (if b then Some v else None) k
 or_if true v k = refl
 or_if false v k = refl

@@ -161,7 +161,7 @@ module _ (l : LabelledNodes) (shape new_shape : TextShape) (targets : ℕ → Op
   jump-node : (i : ℕ) (n : Node) → slice_get l.nodes i ≡ Some n → jump_at l i ≡ true → is_jump n.op ≡ true
   jump-node i n e j = ap is_jump_at (sym e) ∙ j
 
-  -- a node that reads stays, and stands at its number
+  -- a node that reads stays, and is at its number
   plain-stays : (i : ℕ) (n : Node) → slice_get l.nodes i ≡ Some n → is_jump n.op ≡ false → keep i ≡ true
   plain-stays i n e h = others-stay l is.accepted formed i (ap is_jump_at e ∙ h)
 

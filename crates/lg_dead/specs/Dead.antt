@@ -13,7 +13,7 @@ use Rattle.lg_live.specs.Definitions.{defines}
 use Rattle.lg_live.specs.Needs.{IsNeeded}
 use Rattle.lg_opt.specs.Moves.{is_movr}
 
--- a node writes a register that is needed behind it
+-- a node writes a register that is needed after it
 pub record IsOfUse (l : LabelledNodes) (s : TextShape) (i : ℕ) (n : Node) : Type 0 where
   pub register : Reg
   pub next : ℕ
@@ -25,7 +25,7 @@ pub record IsOfUse (l : LabelledNodes) (s : TextShape) (i : ℕ) (n : Node) : Ty
 abbrev pub AllAreOfUse : LabelledNodes → TextShape → Type 0
 AllAreOfUse l s = (i : ℕ) (n : Node) → slice_get l.nodes i ≡ Some n → defines n.op ≡ true → IsOfUse l s i n
 
--- a node writes a register that is live behind it
+-- a node writes a register that is live after it
 pub record IsNotDead (l : LabelledNodes) (s : TextShape) (i : ℕ) (n : Node) : Type 0 where
   pub register : Reg
   pub written : is_written n register ≡ true

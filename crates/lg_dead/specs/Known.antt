@@ -67,7 +67,7 @@ folded known n = folded_by n (made known n.op n.operands) (last_known known n.op
 abbrev pub can_be_folded : (Reg → Option ℕ) → Node → Bool
 can_be_folded known n = is_some (made known n.op n.operands) || is_some (last_known known n.op n.operands)
 
--- what is known behind a node that goes on: the number of a `movi`, and what the node does not write
+-- what is known after a node that goes on: the number of a `movi`, and what the node does not write
 abbrev pub none_known : Reg → Option ℕ
 none_known r = None
 

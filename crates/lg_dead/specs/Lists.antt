@@ -20,7 +20,7 @@ pub record AreFolded (l : LabelledNodes) (ns : List Node) (count : ℕ) : Type 0
   pub many : length ns ≡ count
   pub each : (i : ℕ) (n : Node) → i < count → slice_get l.nodes i ≡ Some n → slice_get ns i ≡ Some (folded (known_before (with_nodes l ns) i) n)
 
--- what is known behind the node before one
+-- what is known after the node before one
 abbrev pub AreBehind : LabelledNodes → List Node → ℕ → Known → Type 0
 AreBehind l ns i k = (r : Reg) → (if is_labelled l.places i then None else known_of k r) ≡ known_before (with_nodes l ns) i r
 

@@ -11,8 +11,8 @@ use Rattle.lg_meaning.specs.States.{State}
 use Rattle.lg_meaning.specs.Texts.{step}
 use Rattle.lg_dead.specs.Near.{Near, Meets}
 
--- what a node that stays reads is needed, and what is needed at a successor, but for what the node writes; what is dropped is a definition of
--- registers that are not needed behind it
+-- what a node that stays reads is needed, and what is needed at a successor, but for what the node writes; what is dropped is a definition of registers that
+-- are not needed after it
 pub record AreNeeds (l : LabelledNodes) (shape : TextShape) (stays : ℕ → Bool) (needs : ℕ → Reg → Bool) : Type 0 where
   pub reads : (i : ℕ) (n : Node) (r : Reg) → slice_get l.nodes i ≡ Some n → stays i ≡ true → is_read n r ≡ true → needs i r ≡ true
   pub passes : (i k : ℕ) (n : Node) (r : Reg) → slice_get l.nodes i ≡ Some n → IsSuccessor l shape i k → needs k r ≡ true → is_written n r ≡ false

@@ -24,7 +24,7 @@ is_droppable o = defines o || is_jump o
 abbrev pub IsRewrittenNode : Node → Node → Type 0
 IsRewrittenNode old n = (middle : Node) × IsFoldedNode old middle × IsThreadedNode middle n
 
--- ---- the rewrites, one behind the other
+-- ---- the rewrites, one after the other
 -- nodes that were folded, and then lost exactly the definitions that nothing needs
 pub record ComesNeeded (l m : LabelledNodes) (shape : TextShape) (origin : List ℕ) : Type 0 where
   pub middle : LabelledNodes

@@ -28,7 +28,7 @@ fn stays_of(alloc: Global, nodes: &NodeList, shape: &Shape) -> Result<Vec<bool>,
     staying(alloc, nodes, &needs)
 }
 
-// The nodes without the definitions that nothing needs.
+// Returns the nodes without the definitions that nothing needs.
 fn dropped(alloc: Global, nodes: NodeList, shape: Shape) -> Result<Rewritten, OutOfMemory>
     requires { IsShapeOf nodes shape }
     ensures { IfOk result (λ r. IsDroppedTo nodes shape r.nodes r.shape r.origin.items) }
@@ -40,11 +40,11 @@ fn dropped(alloc: Global, nodes: NodeList, shape: Shape) -> Result<Rewritten, Ou
     }
 }
 
-/// Drops each definition whose words can come to no node that is no definition, in one pass. A label of a dropped node moves to the next that stays.
-/// The shape is that of the nodes. Time and memory go by the number of nodes and labels.
+/// Drops each definition whose words can reach no node that is no definition, in one pass. A label of a dropped node moves to the next that stays. The shape
+/// is that of the nodes. Time and memory go by the number of nodes and labels.
 ///
-/// Every other node stays, and those definitions that are of use; so none is dead. The new run makes a step where the old one stands at a node that
-/// stays, and rests at the others, over any addresses of the labels in the new nodes.
+/// Every other node stays, and those definitions that are of use; so none is dead. The new run makes a step where the old one is at a node that stays, and
+/// rests at the others, over any addresses of the labels in the new nodes.
 pub fn drop_dead(alloc: Global, nodes: &NodeList, shape: &Shape) -> Result<Rewritten, OutOfMemory>
     requires { IsShapeOf nodes.now shape.now }
     ensures shape { IfOk result (λ r. IsShapeOf r.nodes r.shape) }
@@ -64,7 +64,7 @@ pub fn drop_dead(alloc: Global, nodes: &NodeList, shape: &Shape) -> Result<Rewri
     without_dead_definitions(alloc, nodes, shape)
 }
 
-/// `drop_dead` of nodes that are handed over: where nothing is dropped they are handed back, with no copy.
+/// `drop_dead` of nodes that are passed: where nothing is dropped they are returned, with no copy.
 pub fn without_dead_definitions(
     alloc: Global,
     nodes: NodeList,

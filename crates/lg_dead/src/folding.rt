@@ -12,7 +12,7 @@ use crate::known::Known;
 use lg_op::operators::{binary, sets_carry, unary};
 use lg_op::{BinaryOp, LastOperand, Node, Op, Operand, Operands, PlainOp, UnaryOp};
 
-// The word of two words that are known.
+// Returns the word of two words that are known.
 fn made_of_two(op: BinaryOp, a: Option<u64>, b: Option<u64>) -> Option<u64>
     ensures { result ≡ (if sets_carry op then None else both_known a b (binary_value op)) }
 {
@@ -28,7 +28,7 @@ fn made_of_two(op: BinaryOp, a: Option<u64>, b: Option<u64>) -> Option<u64>
     }
 }
 
-// The word that an operation makes of its operands.
+// Returns the word that an operation makes of its operands.
 fn made_binary(known: &Known, op: BinaryOp, operands: &[Operand]) -> Option<u64>
     ensures { (last : LastOperand) → result ≡ made (known_of known.now) (variant.Binary op last) operands.now }
 {
@@ -38,7 +38,7 @@ fn made_binary(known: &Known, op: BinaryOp, operands: &[Operand]) -> Option<u64>
     }
 }
 
-// The word that an operation makes of its operand.
+// Returns the word that an operation makes of its operand.
 fn made_unary(known: &Known, op: UnaryOp, operands: &[Operand]) -> Option<u64>
     ensures { result ≡ made (known_of known.now) (variant.Unary op) operands.now }
 {
@@ -51,7 +51,7 @@ fn made_unary(known: &Known, op: UnaryOp, operands: &[Operand]) -> Option<u64>
     }
 }
 
-// The word that a node makes of words that are known.
+// Returns the word that a node makes of words that are known.
 fn made(known: &Known, node: &Node) -> Option<u64>
     ensures { result ≡ made (known_of known.now) node.now.op node.now.operands }
 {
@@ -62,7 +62,7 @@ fn made(known: &Known, node: &Node) -> Option<u64>
     }
 }
 
-// The number of a last operand that is a register which is known.
+// Returns the number of a last operand that is a register which is known.
 fn last_known(known: &Known, node: &Node) -> Option<u64>
     ensures { result ≡ last_known (known_of known.now) node.now.op node.now.operands }
 {
@@ -100,7 +100,7 @@ fn as_movi(node: &Node, number: u64) -> Node
     }
 }
 
-// The operation with an immediate.
+// Returns the operation with an immediate.
 fn with_immediate(op: Op) -> Op
     ensures { result ≡ with_immediate op }
 {
@@ -111,7 +111,7 @@ fn with_immediate(op: Op) -> Op
     }
 }
 
-// Three operands of which the last is this number.
+// Three operands the last of which is this number.
 fn with_third(operands: Operands, number: u64) -> Operands
     ensures { result ≡ with_third operands number }
 {
@@ -132,7 +132,7 @@ fn as_immediate(node: &Node, number: u64) -> Node
     }
 }
 
-/// What a node becomes where these numbers are known before it: a `movi` of the word that it makes, or the node with its last operand as a number.
+/// Returns what a node becomes where these numbers are known before it: a `movi` of the word that it makes, or the node with its last operand as a number.
 #[inline(never)]
 pub fn folded(known: &Known, node: &Node) -> Node
     requires form { InForm node.now }

@@ -31,7 +31,7 @@ struct Moved {
     number: u64,
 }
 
-// Whether an operation moves an immediate.
+// Returns whether an operation moves an immediate.
 fn is_movi(op: Op) -> bool
     ensures { result ≡ is_movi op }
 {
@@ -77,14 +77,14 @@ impl Known {
         }
     }
 
-    /// Whether nothing is known.
+    /// Returns whether nothing is known.
     pub fn is_none(&self) -> bool
         ensures { result ≡ not self.now.some }
     {
         !self.some
     }
 
-    /// The number of a register. FP is never known.
+    /// Returns the number of a register. FP is never known.
     pub fn of(&self, register: Reg) -> Option<u64>
         ensures { result ≡ known_of self.now register }
     {
@@ -102,7 +102,7 @@ impl Known {
         }
     }
 
-    /// The number that an operand is known to give.
+    /// Returns the number that an operand is known to give.
     pub fn number_in(&self, operand: Operand) -> Option<u64>
         ensures { result ≡ number_in (known_of self.now) operand }
     {
@@ -193,7 +193,7 @@ impl Known {
         }
     }
 
-    // Goes on behind a node, register by register.
+    // Continues after a node, register by register.
     #[inline(never)]
     fn pass_each(&mut self, node: &Node)
         ensures r0 { known_of self.new R0 ≡ known_behind (known_of self.old) node.now R0 }
@@ -208,7 +208,7 @@ impl Known {
         self.note(node);
     }
 
-    // Whether a node may change what is known: where nothing is, only a `movi` does.
+    // Returns whether a node may change what is known: where nothing is, only a `movi` does.
     #[inline(always)]
     #[tactic(auto, using(crate::proofs::NoneLemmas::none_behind))]
     fn may_change(&self, node: &Node) -> bool
@@ -217,7 +217,7 @@ impl Known {
         self.some || is_movi(node.op)
     }
 
-    /// Goes on behind a node of the straight run: where nothing was known, only a `movi` makes something known.
+    /// Continues after a node of the straight run: where nothing was known, only a `movi` makes something known.
     #[inline(always)]
     pub fn pass(&mut self, node: &Node)
         ensures r0 { known_of self.new R0 ≡ known_behind (known_of self.old) node.now R0 }

@@ -1,5 +1,5 @@
 //! Numbers that are known are put in the place of the registers that hold them, and of the nodes that make them; definitions that nothing needs are dropped;
-//! and the four rewrites of a text's nodes, one behind the other.
+//! and the four rewrites of a text's nodes, one after the other.
 #![tactic(auto)]
 
 mod dropping;

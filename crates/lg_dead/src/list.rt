@@ -23,7 +23,7 @@ use lg_opt::moves::leaps;
 use lg_opt::rebuilding::{bind_moved, numbers, origin, unbound};
 use std::alloc::Global;
 
-// What is known at a node, of what is known behind the node before: nothing where a label is bound at it.
+// What is known at a node, of what is known after the node before: nothing where a label is bound at it.
 fn meet(known: &mut Known, labelled: bool)
     ensures { (r : Reg) → known_of known.new r ≡ (if labelled then None else known_of known.old r) }
 {
@@ -32,7 +32,7 @@ fn meet(known: &mut Known, labelled: bool)
     }
 }
 
-// What is known behind a node, of what is known at it.
+// What is known after a node, of what is known at it.
 fn pass(known: &mut Known, node: &Node)
     ensures r0 { known_of known.new R0 ≡ known_at (known_of known.old) (Some node.now) R0 }
     ensures r1 { known_of known.new R1 ≡ known_at (known_of known.old) (Some node.now) R1 }
@@ -48,7 +48,7 @@ fn pass(known: &mut Known, node: &Node)
     }
 }
 
-// Appends a node, and goes on behind it.
+// Appends a node, and continues after it.
 #[inline(always)]
 fn push_on(list: &mut NodeList, known: &mut Known, new: &Node) -> Result<(), OutOfMemory>
     requires room { length list.old.nodes < 2 ^ 32 - 1 }
@@ -61,7 +61,7 @@ fn push_on(list: &mut NodeList, known: &mut Known, new: &Node) -> Result<(), Out
     Ok(())
 }
 
-// Appends what a node becomes, and goes on behind that. Where nothing is known nothing can be folded.
+// Appends what a node becomes, and continues after that. Where nothing is known nothing can be folded.
 #[inline(always)]
 fn push_next(list: &mut NodeList, known: &mut Known, node: &Node) -> Result<(), OutOfMemory>
     requires room { length list.old.nodes < 2 ^ 32 - 1 }
@@ -127,7 +127,7 @@ fn fill(
     Ok(())
 }
 
-// The folded nodes, with the labels where they were.
+// Returns the folded nodes, with the labels where they were.
 fn folded_nodes(alloc: Global, nodes: &NodeList, stays: &[bool]) -> Result<NodeList, OutOfMemory>
     requires count { length stays.now ≡ length nodes.now.nodes }
     requires stays { (i : ℕ) → i < length nodes.now.nodes → marked stays.now i ≡ true }
@@ -142,7 +142,7 @@ fn folded_nodes(alloc: Global, nodes: &NodeList, stays: &[bool]) -> Result<NodeL
     }
 }
 
-// The folded nodes, with their shape, which is the old one's.
+// Returns the folded nodes, with their shape, which is the old one's.
 fn folded_list(alloc: Global, nodes: &NodeList, shape: &Shape) -> Result<Rewritten, OutOfMemory>
     requires { IsShapeOf nodes.now shape.now }
     ensures { IfOk result (λ r. IsFoldedList nodes.now shape.now r.nodes r.shape r.origin.items) }

@@ -1,4 +1,4 @@
-// The four rewrites, one behind the other.
+// The four rewrites, one after the other.
 
 ghost use Rattle.std.specs.Prelude.{◌≡◌, ◌<◌, ◌≤◌, ℕ, length, map, slice_index, IfOk};
 ghost use Rattle.lg_node.specs.Shapes.{IsShapeOf};

@@ -13,7 +13,7 @@ use lg_live::{RegSet, writes};
 use lg_node::{Node, NodeList};
 use std::alloc::Global;
 
-// The registers that are needed before a node, by the table; behind the last there are none.
+// Returns the registers that are needed before a node, by the table; after the last there are none.
 fn needed_at(needs: &[RegSet], index: u64) -> RegSet
     ensures { (r : Reg) → has result r ≡ needs_in needs.now index r }
 {
@@ -23,14 +23,14 @@ fn needed_at(needs: &[RegSet], index: u64) -> RegSet
     }
 }
 
-// Whether a node is none of the definitions of registers that are not among these.
+// Returns whether a node is none of the definitions of registers that are not among these.
 fn stays_here(node: &Node, next: RegSet) -> bool
     ensures { result ≡ stays_at (has next) (Some node.now) }
 {
     !defines(node.op) || meets(writes(node), next)
 }
 
-/// Of each node whether it stays: all but the definitions of registers that are not needed behind them.
+/// Of each node whether it stays: all but the definitions of registers that are not needed after them.
 pub fn staying(alloc: Global, nodes: &NodeList, needs: &[RegSet]) -> Result<Vec<bool>, OutOfMemory>
     ensures { IfOk result (λ table. (length table.items ≡ length nodes.now.nodes) × AreStays nodes.now needs.now table.items) }
 {

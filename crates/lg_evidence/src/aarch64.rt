@@ -7,7 +7,7 @@ use crate::table::{Found, Operands, spoken};
 use lg_a64::{Instr, ScaledOp, decode, encode};
 use std::alloc::{AllocError, Global};
 
-/// The instruction that the bytes begin with, if they begin with one.
+/// Returns the instruction that the bytes begin with, if they begin with one.
 pub fn find(alloc: Global, bytes: &[u8]) -> Result<Option<Found>, AllocError>
     ensures { IfOk result (λ answer. IfSome answer (StandsInFront bytes.now)) }
 {
@@ -59,7 +59,7 @@ fn operands(instr: &Instr) -> Operands {
     }
 }
 
-// The operands of a row with two numbers.
+// Returns the operands of a row with two numbers.
 fn two_numbers(instr: &Instr) -> Operands {
     match *instr {
         Instr::Imm {
@@ -90,7 +90,7 @@ fn two_numbers(instr: &Instr) -> Operands {
     }
 }
 
-// The operands of a load or store with a displacement.
+// Returns the operands of a load or store with a displacement.
 fn access(instr: &Instr) -> Operands {
     match *instr {
         Instr::Scaled { op, rt, rn, imm } => [

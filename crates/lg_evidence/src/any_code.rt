@@ -1,6 +1,6 @@
-// Runs any bytes as code on each of the modelled processors: for each target 10,000 buffers of up to 64 bytes of a fixed generator, and 10,000 of code of which
-// one to four bytes were changed, at most 1,000 steps each. Each run comes to an answer by name, which ten more calls repeat. Prints for each
-// target how many runs came to what.
+// Runs any bytes as code on each of the modelled processors: for each target 10,000 buffers of up to 64 bytes of a fixed generator, and 10,000 of code, one
+// to four bytes of which were changed, at most 1,000 steps each. Each run gives an answer by name, which ten more calls repeat. Prints for each target how
+// many runs came to what.
 
 mod bytes;
 mod runs;

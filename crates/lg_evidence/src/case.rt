@@ -13,9 +13,9 @@ pub struct Case<'a> {
     pub hex: &'a str,
     /// IN, what is set before.
     pub before: &'a str,
-    /// OUT, what the run comes to, without its first word.
+    /// OUT, the outcome of the run, without its first word.
     pub after: &'a str,
-    /// The first word of OUT: how the run stands.
+    /// The first word of OUT: how the run is.
     pub answer: &'a str,
 }
 
@@ -24,7 +24,7 @@ fn column(line: &str, number: usize) -> &str {
     line.split('\t').nth(number).unwrap_or("")
 }
 
-/// The columns of a line on single steps, of which there are six.
+/// Returns the columns of a line on single steps (six).
 pub fn parse_case(line: &str) -> Option<Case<'_>> {
     let _how = line.split('\t').nth(5)?;
     let (answer, after) = column(line, 4).split_once(' ')?;
@@ -48,7 +48,7 @@ pub struct Program<'a> {
     pub outcome: &'a str,
 }
 
-/// The columns of a line on a program, of which there are six.
+/// Returns the columns of a line on a program (six).
 pub fn parse_program(line: &str) -> Option<Program<'_>> {
     let _how = line.split('\t').nth(5)?;
     Some(Program {
@@ -83,7 +83,7 @@ pub enum Item {
     },
 }
 
-/// An item of IN or OUT, with hexadecimal numbers but for the count of steps.
+/// Returns an item of IN or OUT, with hexadecimal numbers but for the count of steps.
 pub fn parse_item(target: Target, text: &str) -> Option<Item> {
     let (name, value) = text.split_once('=')?;
     match name {
@@ -148,7 +148,7 @@ const REGISTERS: &[(Target, &str, u8)] = &[
     (Target::Aarch64, "sp", 31),
 ];
 
-// The number that a name of a target has in a table.
+// Returns the number that a name of a target has in a table.
 fn number_in(table: &[(Target, &str, u8)], target: Target, name: &str) -> Option<u8> {
     for (of, text, number) in table {
         if *of == target && *text == name {
@@ -182,7 +182,7 @@ fn parse_width(text: &str) -> Option<u32> {
     }
 }
 
-/// The number of hexadecimal digits, which is below 2^64.
+/// Returns the number of hexadecimal digits, which is below 2^64.
 pub fn number_of(text: &str) -> Option<u64> {
     let mut number = 0u64;
     for code in text.as_bytes() {
@@ -193,7 +193,7 @@ pub fn number_of(text: &str) -> Option<u64> {
     Some(number)
 }
 
-// Appends the bytes of hexadecimal digits, two a byte, and tells whether they are such.
+// Appends the bytes of hexadecimal digits, two a byte, and returns whether they are such.
 fn push_digits(bytes: &mut Vec<u8>, hex: &str) -> Result<bool, AllocError> {
     for pair in hex.as_bytes().chunks(2) {
         match byte_of(pair) {
@@ -204,7 +204,7 @@ fn push_digits(bytes: &mut Vec<u8>, hex: &str) -> Result<bool, AllocError> {
     Ok(true)
 }
 
-// The byte of two hexadecimal digits.
+// Returns the byte of two hexadecimal digits.
 fn byte_of(pair: &[u8]) -> Option<u8> {
     match pair {
         [high, low] => Some(digit(*high)? * 16 + digit(*low)?),
@@ -212,7 +212,7 @@ fn byte_of(pair: &[u8]) -> Option<u8> {
     }
 }
 
-/// So many zero bytes and then those of hexadecimal digits, two a byte; `-` is the empty list.
+/// This many zero bytes and then those of hexadecimal digits, two a byte; `-` is the empty list.
 pub fn code_of(alloc: Global, front: usize, hex: &str) -> Result<Option<Vec<u8>>, AllocError> {
     let mut bytes = vec![in alloc; 0u8; front]?;
     if hex == "-" || push_digits(&mut bytes, hex)? {

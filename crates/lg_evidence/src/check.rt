@@ -27,7 +27,7 @@ const RETURN: u64 = 0x3fff_fff8;
 /// What the lines of a file are.
 #[derive(Clone, Copy)]
 pub enum Lines {
-    /// Encodings. The bytes, with others behind them, must be read as the instruction that the line names, which must be encoded as
+    /// Encodings. The bytes, with others after them, must be read as the instruction that the line names, which must be encoded as
     /// the bytes again.
     Spelled,
     /// Bytes that are no instruction. The bytes, which stand alone, must be read as none.
@@ -126,7 +126,7 @@ fn compared(
     }
 }
 
-// whether what was found is the operation wanted, of these bytes and no others
+// whether what was found is the operation that is looked for, of these bytes and no others
 fn is_as_wanted(found: &Found, operation: &str, bytes: &Piece) -> bool
     ensures { IsTrue result ↔ IsAsWanted found.now operation.now bytes.now }
 {
@@ -160,7 +160,7 @@ fn write_found(text: &mut String, found: &Found) -> Result<(), AllocError> {
     Ok(())
 }
 
-// the bytes with others behind them
+// the bytes with others after them
 fn followed(bytes: &Piece) -> [u8; 24]
     ensures { (more : List ℕ) × (result ≡ bytes.now ++ more) }
 {

@@ -1,8 +1,8 @@
 // Compares the tables and the models of the processors with evidence from outside, the files of
 // `data`: what assemblers make of each instruction, bytes that are no instruction, runs of a few steps, and
 // whole programs. Prints a line for each file, and first, for each of up to twenty lines that differ, the
-// line and what was found in its place. Each line of the files whose names begin with `wrong` is to differ. Then it runs any bytes as code
-// on each model (`any_code`), and prints what these runs come to.
+// line and what was found in its place. Each line of the files whose names begin with `wrong` is to differ. Then it runs any bytes as code on each model
+// (`any_code`), and prints the outcome of these runs.
 #![tactic(auto)]
 
 mod aarch64;

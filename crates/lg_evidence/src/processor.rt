@@ -24,7 +24,7 @@ const MOST_CODE: usize = 65_536;
 // the most bytes in front of the first program counter
 const MOST_FRONT: u64 = 4_096;
 
-/// A data part of so many zero bytes.
+/// Returns a data part of this many zero bytes.
 pub fn zeros(alloc: Global, size: usize) -> Result<DataImage, OutOfMemory>
     requires { size < 65537 }
     ensures { IfOk result (λ image. length image < 65537) }
@@ -33,7 +33,7 @@ pub fn zeros(alloc: Global, size: usize) -> Result<DataImage, OutOfMemory>
     Ok(DataImage::from_vec(zeros))
 }
 
-/// A processor of a target, with a data part of so many zero bytes and this argument part, and without code.
+/// Returns a processor of a target, with a data part of this many zero bytes and this argument part, and without code.
 pub fn processor(
     alloc: Global,
     target: Target,
@@ -49,7 +49,7 @@ pub fn processor(
     Cpu::new(alloc, target, &code, &image, &args, TRASH)
 }
 
-/// Makes the code end with the bytes of hexadecimal digits, of which the first stands at an address, and tells whether that can be.
+/// Makes the code end with the bytes of hexadecimal digits, the first of which is at an address, and returns whether that can be.
 pub fn set_code(alloc: Global, cpu: &mut Cpu, at: u64, hex: &str) -> Result<bool, AllocError> {
     if at < CODE || at - CODE > MOST_FRONT {
         return Ok(false);
@@ -63,7 +63,7 @@ pub fn set_code(alloc: Global, cpu: &mut Cpu, at: u64, hex: &str) -> Result<bool
     }
 }
 
-/// What a check ends with where memory could not be had.
+/// Returns what a check ends with where memory could not be had.
 pub fn out_of_memory() -> io::Error {
     io::Error::from(io::ErrorKind::OutOfMemory)
 }
@@ -77,7 +77,7 @@ pub fn step(cpu: &mut Cpu, out: &mut MemorySink) -> CpuStep {
     }
 }
 
-/// Takes at most so many steps, until one comes to something else than that it goes on, and says what the last one came to.
+/// Takes at most this many steps, until one gives something else than that it goes on, and says what the last one resulted in.
 #[inline(never)]
 pub fn steps(cpu: &mut Cpu, out: &mut MemorySink, most: u64) -> CpuStep {
     for _ in 0..most {

@@ -55,7 +55,7 @@ fn write_end(text: &mut String, answer: CpuStep) -> Result<(), AllocError> {
     }
 }
 
-// and behind how many steps, and where
+// and after how many steps, and where
 fn write_outcome(text: &mut String, cpu: &Cpu, answer: CpuStep) -> Result<(), AllocError> {
     write_end(text, answer)?;
     write!(text, " steps={} pc={:x}", cpu.steps(), cpu.pc())

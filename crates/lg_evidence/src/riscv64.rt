@@ -7,7 +7,7 @@ use crate::table::{Found, Operands, spoken};
 use lg_rv::{Instr, decode, encode};
 use std::alloc::{AllocError, Global};
 
-/// The instruction that the bytes begin with, if they begin with one.
+/// Returns the instruction that the bytes begin with, if they begin with one.
 pub fn find(alloc: Global, bytes: &[u8]) -> Result<Option<Found>, AllocError>
     ensures { IfOk result (λ answer. IfSome answer (StandsInFront bytes.now)) }
 {

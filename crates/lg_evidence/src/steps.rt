@@ -7,7 +7,7 @@ use lg_cpu::{Cpu, CpuStep};
 use lg_tally::Outcome;
 use std::alloc::{AllocError, Global};
 
-// Where a run stands, but for its memory.
+// Where a run is, but for its memory.
 #[derive(Clone, Copy)]
 struct State {
     pc: u64,
@@ -16,7 +16,7 @@ struct State {
     flags: [Option<bool>; 4],
 }
 
-// What a run came to: what its last step answered, where it stands, and whether all is as wanted.
+// What a run came to: what its last step answered, where it is, and whether all is as expected.
 #[derive(Clone, Copy)]
 struct Stands {
     answer: CpuStep,
@@ -98,7 +98,7 @@ fn are_alike(found: &State, wanted: &State) -> bool {
         && found.flags == wanted.flags
 }
 
-// Where the processor stands, and how many steps it has taken behind so many.
+// Where the processor is, and how many steps it has taken after this many.
 fn state_of(cpu: &Cpu, steps: u64) -> State {
     let mut registers = [0; 32];
     for number in 0..32u8 {
@@ -188,7 +188,7 @@ fn go_over(target: Target, cpu: &mut Cpu, state: &mut State, items: &str, how: U
     are_used
 }
 
-// The same of one item. A count of steps may stand in OUT alone.
+// The same of one item. A count of steps may be in OUT alone.
 fn is_used(target: Target, cpu: &mut Cpu, state: &mut State, text: &str, how: Use) -> bool {
     match parse_item(target, text) {
         Some(
@@ -230,7 +230,7 @@ fn are_bytes_used(cpu: &mut Cpu, (width, address): (u32, u64), value: u64, how: 
     }
 }
 
-/// What a step comes to, as the evidence writes it.
+/// Returns the outcome of a step, as the evidence writes it.
 pub fn name_of(answer: CpuStep) -> &'static str {
     match answer {
         CpuStep::Went => "Went",
@@ -240,7 +240,7 @@ pub fn name_of(answer: CpuStep) -> &'static str {
     }
 }
 
-// What a run came to, in words where that is not as wanted.
+// What a run came to, in words where that is not as expected.
 fn told(alloc: Global, stands: &Stands) -> Result<Outcome, AllocError> {
     if stands.is_as_wanted {
         return Ok(Outcome::Agrees);

@@ -19,7 +19,7 @@ pub struct Found {
     pub spelling: Piece,
 }
 
-/// The instruction of a target that the bytes begin with, if they begin with one.
+/// Returns the instruction of a target that the bytes begin with, if they begin with one.
 pub fn find(alloc: Global, target: Target, bytes: &[u8]) -> Result<Option<Found>, AllocError>
     ensures { IfOk result (λ answer. IfSome answer (StandsInFront bytes.now)) }
 {
@@ -33,7 +33,7 @@ pub fn find(alloc: Global, target: Target, bytes: &[u8]) -> Result<Option<Found>
 /// The operands of an instruction, at most four, from the front on.
 pub type Operands = [Option<i64>; 4];
 
-/// A row's name and the operands as the evidence writes them.
+/// Returns a row's name and the operands as the evidence writes them.
 pub fn spoken(alloc: Global, name: &Piece, operands: Operands) -> Result<String, AllocError> {
     let name = str::from_utf8(name.as_slice()).unwrap_or("a name that is no text");
     let mut text = String::from_str(alloc, name)?;
@@ -41,7 +41,7 @@ pub fn spoken(alloc: Global, name: &Piece, operands: Operands) -> Result<String,
     Ok(text)
 }
 
-// Appends operands, each behind a blank.
+// Appends operands, each after a blank.
 fn write_operands(text: &mut String, operands: &Operands) -> Result<(), AllocError> {
     for operand in operands {
         if let Some(operand) = operand {

@@ -14,7 +14,7 @@ pub struct Spelled<'a> {
     pub operation: &'a str,
 }
 
-/// The columns of a line on an encoding.
+/// Returns the columns of a line on an encoding.
 pub fn parse_spelled(line: &str) -> Option<Spelled<'_>> {
     let (_text, rest) = line.split_once('\t')?;
     let (hex, rest) = rest.split_once('\t')?;
@@ -22,13 +22,13 @@ pub fn parse_spelled(line: &str) -> Option<Spelled<'_>> {
     Some(Spelled { hex, operation })
 }
 
-/// The bytes of HEX, which are no instruction: the first column of a line HEX, REASON, DISASM.
+/// Returns the bytes of HEX, which are no instruction: the first column of a line HEX, REASON, DISASM.
 pub fn parse_refused(line: &str) -> Option<Piece> {
     let (hex, _rest) = line.split_once('\t')?;
     bytes_of(hex)
 }
 
-/// The bytes of lower hexadecimal digits, two a byte; `-` is the empty list. `None` for another text,
+/// Returns the bytes of lower hexadecimal digits, two a byte; `-` is the empty list. `None` for another text,
 /// and for more than 16 bytes.
 pub fn bytes_of(hex: &str) -> Option<Piece>
     ensures { IfSome result (λ bytes. hex.now ≡ hex_text bytes) }
@@ -48,7 +48,7 @@ pub fn bytes_of(hex: &str) -> Option<Piece>
     Some(bytes)
 }
 
-/// The value of a hexadecimal digit.
+/// Returns the value of a hexadecimal digit.
 pub fn digit(code: u8) -> Option<u8>
     ensures { IfSome result (λ value. (value < 16) × (hex_digit value ≡ code)) }
 {

@@ -7,7 +7,7 @@ use crate::table::{Found, Operands, spoken};
 use lg_x86::{Instr, decode, encode};
 use std::alloc::{AllocError, Global};
 
-/// The instruction that the bytes begin with, if they begin with one.
+/// Returns the instruction that the bytes begin with, if they begin with one.
 pub fn find(alloc: Global, bytes: &[u8]) -> Result<Option<Found>, AllocError>
     ensures { IfOk result (λ answer. IfSome answer (StandsInFront bytes.now)) }
 {
@@ -25,7 +25,7 @@ pub fn find(alloc: Global, bytes: &[u8]) -> Result<Option<Found>, AllocError>
     }
 }
 
-// The name and the operands. The number of `movi64` may pass the signed numbers.
+// Returns the name and the operands. The number of `movi64` may pass the signed numbers.
 fn operation(alloc: Global, instr: &Instr) -> Result<String, AllocError> {
     let mut text = spoken(alloc, &instr.name(), operands(instr))?;
     if let Instr::Movi64 { imm, .. } = *instr {

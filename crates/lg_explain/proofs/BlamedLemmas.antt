@@ -268,7 +268,7 @@ module _ (l : LabelledNodes) (at : ℕ) (n : Node) (here : slice_get l.nodes at 
   bad_found : refuses l at n BadCall ≡ true → label_of BadCall l ≡ label_between (prepared_before l.nodes at) l.places at
   bad_found e = ap option_flatten (first_found (of_node (bad_call_at l) l) at (length l.nodes) (label_between (prepared_before l.nodes at) l.places at) within first_bad (at_node (bad_call_at l) l at n here ∙ bad_gives l at n true e))
 
-  -- it is blamed where it is told
+  -- it is blamed where it is reported
   pub told_blames : (k : RefusalKind) (x : Label) → refuses l at n k ≡ true → label_of k l ≡ Some x → Blames k l at n x
   told_blames LabelMissing x r e =
       let m = some_missing l.places n.operands r in
@@ -280,7 +280,7 @@ module _ (l : LabelledNodes) (at : ℕ) (n : Node) (here : slice_get l.nodes at 
       let b = between_some (prepared_before l.nodes at) l.places at x (sym (bad_found r) ∙ e) in (b.0, first_bound l at x b.1)
   told_blames k x r e = cc
 
-  -- and told where it is blamed
+  -- and reported where it is blamed
   pub blames_told : (k : RefusalKind) (x : Label) → refuses l at n k ≡ true → Blames k l at n x → label_of k l ≡ Some x
   blames_told LabelMissing x r b = missing_found x (missing_is l.places n.operands x b)
   blames_told TargetOutside x r b = astray_found x (astray_is l (home l.nodes at) n.op (forms_of n.op) n.operands x b)

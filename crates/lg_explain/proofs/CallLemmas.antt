@@ -1,4 +1,4 @@
--- A call that is being prepared, of which it is only known whether an `ellipsis` came.
+-- A call that is being prepared; it is only known whether an `ellipsis` came.
 use Rattle.std.proofs.Common.{◌≡◌, ℕ, zero, suc, ◌+◌, ◌<◌, Bool, true, false, ◌||◌, List, [], ◌∷◌, Option, Some, None, is_some, length, refl, sym, ap, ◌∙◌, arith}
 use Rattle.std.specs.Prelude.{slice_get, slice_index_or, if◌then◌else◌, IfSome, IfNone}
 use Rattle.std.specs.List.{list_any, position, position_or_len}

@@ -77,7 +77,7 @@ name_no_label : (forms : List Form) (kind : TokenKind) → makes_name_in forms k
 name_no_label [] kind e = cc
 name_no_label (f ∷ fs) kind e = refl
 
--- ---- the tokens that are left, behind what was made and with the forms that are left
+-- ---- the tokens that are left, after what was made and with the forms that are left
 module _ (text : List ℕ) where
   abbrev pub NoneBegins : List Form → List Token → (from to : ℕ) → Type 0
   NoneBegins forms tokens from to = (k : ℕ) → from ≤ k → k < to → BeginsFunction text forms tokens k → ⊥

@@ -25,7 +25,7 @@ use Rattle.lg_tst.specs.declared.statement.Statement.TheVariants as statement
 use Rattle.lg_explain.specs.FormsTaken.{FormsAreTaken}
 use Rattle.lg_explain.specs.Twice.{forms_by, forms_of_word}
 
--- what is read took so many tokens
+-- what is read took this many tokens
 abbrev Takes : List Token → ℕ → Result State Refusal → Type 0
 Takes left n read = IfOk read (λ u. length left ≡ n + length u.source.left)
 
@@ -65,7 +65,7 @@ begun_same (Store t at) s = refl
 begun_same (Retval t) s = refl
 begun_same (Getarg t) s = refl
 
--- a token that is wanted is the first, and one more is taken
+-- a token that is requested is the first, and one more is taken
 one_more : (n : ℕ) (xs : List Token) (r : Result State Refusal) → Takes xs n r → (x : Token) → Takes (x ∷ xs) (suc n) r
 one_more n xs (Ok u) h x = omega (arith, h)
 one_more n xs (Err e) h x = tt

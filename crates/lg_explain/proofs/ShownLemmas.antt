@@ -6,7 +6,7 @@ use Rattle.lg_io.specs.Wrote.{joined}
 use Rattle.lg_io.proofs.WroteLemmas.{joined-more}
 use Rattle.lg_explain.specs.Lines.{most_shown, shown, shown_byte}
 
--- at most so many are taken, and what has no room is left out, sooner or later
+-- at most this many are taken, and what has no room is left out, sooner or later
 pub take_short : {X : Type 0} (n : ℕ) (xs : List X) → length (take n xs) ≤ n
 take_short zero xs = omega arith
 take_short (suc n) [] = omega arith

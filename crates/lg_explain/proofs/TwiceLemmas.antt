@@ -72,7 +72,7 @@ pub at_end : (text : List ℕ) (all : Option (List ℕ)) (tokens : Tokens) (labe
     → IsLeft text all tokens labels names forms → Gives tokens r left → ((token : Token) → r ≡ Ok (Some token) → ⊥) → all ≡ None
 at_end text all tokens labels names forms r left h gives none = sym h.same ∙ end_at text tokens.0 tokens.1 labels names forms r left gives none
 
--- a word that is made again is the first one, and behind a token that makes none there is what is left
+-- a word that is made again is the first one, and after a token that makes none there is what is left
 pub found_here : (text : List ℕ) (all : Option (List ℕ)) (token : Token) (left : Tokens) (labels names : List (List ℕ)) (forms : List Form) (word : List ℕ)
     → IsNext text all token left labels names forms → Some word ≡ option_map shown (again forms token.kind (text_of text token) labels names) → Some word ≡ option_map shown all
 found_here text all token left labels names forms word h is = by (again forms token.kind (text_of text token) labels names) is h.same

@@ -12,7 +12,7 @@ use Rattle.lg_explain.specs.Unknown.{forms_behind, part_behind, rest_behind, unk
 use Rattle.lg_explain.specs.declared.place.Part.{Part}
 use Rattle.lg_explain.specs.declared.place.Rest.{Rest}
 
--- what comes behind a token
+-- what comes after a token
 abbrev pub later : List ℕ → Token → List Token → Part → List Form → Rest → Option (List ℕ)
 later text t more p forms r = unknown_from text more (part_behind p forms r t.kind (text_of text t)) (forms_behind p forms r t.kind (text_of text t)) (rest_behind p forms r t.kind (text_of text t))
 
@@ -60,7 +60,7 @@ pub at_end : (text : List ℕ) (all : Option (List ℕ)) (tokens : Tokens) (p : 
     → IsLeft text all tokens p forms r → Gives tokens read left → ((token : Token) → read ≡ Ok (Some token) → ⊥) → all ≡ None
 at_end text all tokens p forms r read left h gives none = sym h.same ∙ end_at text tokens.0 tokens.1 p forms r read left gives none
 
--- a token that begins none is the first one, and behind one that does, or belongs to the statement at hand, there is what is left
+-- a token that begins none is the first one, and after one that does, or belongs to the statement at hand, there is what is left
 pub found_here : (text : List ℕ) (all : Option (List ℕ)) (token : Token) (left : Tokens) (p : Part) (forms : List Form) (r : Rest) (word : List ℕ)
     → IsNext text all token left p forms r → Some word ≡ option_map shown (unknown p forms r token.kind (text_of text token)) → Some word ≡ option_map shown all
 found_here text all token left p forms r word h is = by (unknown p forms r token.kind (text_of text token)) is h.same

@@ -61,7 +61,7 @@ pub record IsBlamed (l : LabelledNodes) (r : Refusal) (x : Label) : Type 0 where
   pub before : NoneBefore l at
   pub blames : Blames r.kind l at node x
 
--- such a label is the one that is told of nodes that are refused so, and none is told where there is none
+-- such a label is the one that is reported of nodes that are refused so, and none is reported where there is none
 abbrev pub LabelsAreBlamed : Type 0
 LabelsAreBlamed = (l : LabelledNodes) (r : Refusal) (x : Label) → IsRefused l r → (label_of r.kind l ≡ Some x) ↔ IsBlamed l r x
 
@@ -73,7 +73,7 @@ pub record IsWordBlamed (l : LabelledNodes) (r : Refusal) (word : List ℕ) : Ty
   pub named : slice_get l.words label.0 ≡ Some text
   pub is : word ≡ shown text
 
--- and it is the word that is told of what was read, whose unit is refused so
+-- and it is the word that is reported of what was read, whose unit is refused so
 abbrev pub WordsAreBlamed : Type 0
 WordsAreBlamed =
     (read text word : List ℕ) (unit : TextUnit) (r : Refusal) → expanded read ≡ Ok text → unit_of text ≡ Ok unit → IsRefused unit.nodes r

@@ -19,7 +19,7 @@ use Rattle.lg_node.specs.declared.place.Place.{Place}
 use Rattle.lg_node.specs.declared.preparation.Preparation.{Preparation}
 
 -- ---- of a list of nodes
--- what the first of so many nodes gives that gives something
+-- what the first of n nodes gives that gives something
 unfoldable pub first_of : {A : Type 0} → (ℕ → Option A) → ℕ → Option A
 first_of gives zero = None
 first_of gives (suc i) = option_or (first_of gives i) (gives i)

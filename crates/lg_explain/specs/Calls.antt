@@ -6,7 +6,7 @@ use Rattle.lg_op.specs.declared.op.ControlOp.TheVariants as control
 use Rattle.lg_op.specs.declared.op.PlainOp.TheVariants as plain
 use Rattle.lg_node.specs.Checks.{breaks_preparation, is_ellipsis, is_out_of_turn, needs_preparation}
 
--- whether an `ellipsis` came, of a call that is being prepared behind an operation
+-- whether an `ellipsis` came, of a call that is being prepared after an operation
 abbrev pub variadic_behind : Option Bool → Op → Option Bool
 variadic_behind current (Plain plain.Prepare) = Some false
 variadic_behind current (Control control.Finish last) = None
@@ -18,7 +18,7 @@ abbrev pub is_bad : Option Bool → Bool → Bool → Op → Bool
 is_bad None varies labelled op = needs_preparation op || ((varies && is_ellipsis op) || is_out_of_turn varies op)
 is_bad (Some variadic) varies labelled op = labelled || (breaks_preparation op || ((variadic && is_ellipsis op) || is_out_of_turn varies op))
 
--- whether a function has variable arguments, behind an operation
+-- whether a function has variable arguments, after an operation
 abbrev pub varies_by : Bool → Option Bool → Op → Bool
 varies_by varies call (Plain plain.Prolog) = false
 varies_by varies None (Plain plain.Ellipsis) = true

@@ -5,7 +5,7 @@ use Rattle.std.specs.Prelude.{ℕ, zero, suc, ◌+◌, ◌-◌, ◌==◌, Bool, 
 abbrev pub first_feed : List ℕ → Option ℕ
 first_feed text = position (λ b. b == 10) text
 
--- what stands before it, and what behind it
+-- what is before it, and what after it
 abbrev pub before_feed : List ℕ → Option ℕ → List ℕ
 before_feed text None = text
 before_feed text (Some at) = take at text
@@ -20,7 +20,7 @@ first_line text = before_feed text (first_feed text)
 abbrev pub behind_line : List ℕ → List ℕ
 behind_line text = behind_feed text (first_feed text)
 
--- what stands behind the first so many line feeds
+-- what is after the first n line feeds
 abbrev pub behind_lines : ℕ → List ℕ → List ℕ
 behind_lines zero text = text
 behind_lines (suc n) text = behind_line (behind_lines n text)

@@ -157,7 +157,7 @@ abbrev pub next_words : List Form → List ℕ
 next_words (before ∷ form ∷ more) = second_words before form
 next_words forms = []
 
--- at most so many bytes are shown of what is there
+-- at most this many bytes are shown of what is there
 abbrev pub most_there : ℕ
 most_there = 40
 

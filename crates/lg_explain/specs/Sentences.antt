@@ -18,7 +18,7 @@ use Rattle.lg_explain.specs.declared.stop.StuckAt.{StuckAt}
 use Rattle.lg_base.specs.declared.host_name.HostName.{HostName}
 use Rattle.lg_base.specs.declared.host_name.HostName.TheVariants as host
 
--- the line of a text, behind four spaces
+-- the line of a text, after four spaces
 abbrev pub text_line : (file : List ℕ) (line : ℕ) (text : List ℕ) → List ℕ
 text_line file line text = row (file ∷ codes ":" ∷ digits_in Decimal line ∷ codes ":     " ∷ shown (line_in text line) ∷ codes "\n" ∷ [])
 
@@ -27,7 +27,7 @@ text_line file line text = row (file ∷ codes ":" ∷ digits_in Decimal line �
 abbrev pub said_line : (file line sentence : List ℕ) → List ℕ
 said_line file line sentence = row (file ∷ codes ":" ∷ line ∷ codes ": " ∷ sentence ∷ codes "\n" ∷ [])
 
--- the same with the word that is to blame behind it
+-- the same with the word that is to blame after it
 abbrev pub word_line : (file line sentence word : List ℕ) → List ℕ
 word_line file line sentence word = row (file ∷ codes ":" ∷ line ∷ codes ": " ∷ sentence ∷ codes ": " ∷ word ∷ codes "\n" ∷ [])
 
@@ -45,7 +45,7 @@ abbrev pub sentence_line : (file : List ℕ) → Option (List ℕ) → Refusal �
 sentence_line file None refusal = said_line file (digits_in Decimal refusal.line) (sentence_of_kind refusal.kind)
 sentence_line file (Some word) refusal = blamed_line refusal.kind file (digits_in Decimal refusal.line) word
 
--- the lines behind the line of a refusal of a text, with the word that it blames
+-- the lines after the line of a refusal of a text, with the word that it blames
 abbrev pub refusal_lines : (file text : List ℕ) → Option (List ℕ) → Refusal → List ℕ
 refusal_lines file text word refusal = text_line file refusal.line text ++ sentence_line file word refusal
 
@@ -80,7 +80,7 @@ sentence_of (NoArgument number) = words_of (codes "argument ") (digits_in Decima
 sentence_of (NotAllowed name) = row (codes "@" ∷ host_word name ∷ codes " does not allow its arguments" ∷ which_are_allowed name ∷ [])
 sentence_of (NoVariable number) = words_of (codes "argument ") (digits_in Decimal number) (codes ", counted from 0, was not pushed\n")
 
--- the number of the row of the table of undefined steps stands before it
+-- the number of the row of the table of undefined steps is before it
 abbrev pub item_words : (file : List ℕ) (line : ℕ) → Reason → List ℕ
 item_words file line reason = row (file ∷ codes ":" ∷ digits_in Decimal line ∷ codes ": item " ∷ digits_in Decimal (item_of reason) ∷ codes ": " ∷ [])
 
@@ -102,7 +102,7 @@ where_words file line = row (file ∷ codes ":" ∷ digits_in Decimal line ∷ c
 abbrev pub registers_line : (file : List ℕ) (line : ℕ) → List (Reg × Option ℕ) → List ℕ
 registers_line file line registers = where_words file line ++ register_parts registers
 
--- ---- the lines behind the line of an undefined step of a text
+-- ---- the lines after the line of an undefined step of a text
 abbrev pub stuck_lines : (file : List ℕ) (line : ℕ) → StuckAt → List ℕ
 stuck_lines file line stuck = reason_line file line stuck.reason ++ registers_line file line stuck.registers
 

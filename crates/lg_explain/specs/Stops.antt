@@ -1,4 +1,4 @@
--- Where the portable machine stands before a step that is undefined.
+-- Where the portable machine is before a step that is undefined.
 use Rattle.std.specs.Prelude.{◌≡◌, ℕ, List, [], ◌∷◌, Option, Some}
 use Rattle.lg_meaning.specs.Reasons.{why}
 use Rattle.lg_meaning.specs.States.{State, reg}

@@ -42,7 +42,7 @@ abbrev pub makes_name_in : List Form → TokenKind → Bool
 makes_name_in [] kind = false
 makes_name_in (form ∷ forms) kind = makes_name form && is_name kind
 
--- the forms of the operands behind a word that begins a statement: `name` has a word, which makes nothing
+-- the forms of the operands after a word that begins a statement: `name` has a word, which makes nothing
 abbrev pub forms_by : Option Op → List Form
 forms_by None = []
 forms_by (Some op) = written_forms op
@@ -54,7 +54,7 @@ abbrev pub forms_begun : TokenKind → List ℕ → List Form
 forms_begun Word text = forms_of_word text
 forms_begun kind text = []
 
--- what is left behind a token
+-- what is left after a token
 abbrev pub forms_behind : List Form → TokenKind → List ℕ → List Form
 forms_behind [] kind text = forms_begun kind text
 forms_behind (form ∷ forms) kind text = forms
@@ -68,7 +68,7 @@ abbrev pub begins_function : List Form → TokenKind → List ℕ → Bool
 begins_function [] Word text = begins (op_of text)
 begins_function forms kind text = false
 
--- the labels that are made behind a token, which has this text, and the names
+-- the labels that are made after a token, which has this text, and the names
 abbrev pub labels_behind : List Form → TokenKind → (text : List ℕ) → List (List ℕ) → List (List ℕ)
 labels_behind forms kind text labels = if makes_label forms kind then with_word labels (without_last text) else labels
 

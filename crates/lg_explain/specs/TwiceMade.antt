@@ -66,7 +66,7 @@ pub record IsFirstAgain (text : List ℕ) (tokens : List Token) (word : List ℕ
 abbrev pub FirstIsMadeTwice : Type 0
 FirstIsMadeTwice = (text word : List ℕ) → (made_twice text ≡ Some word) ↔ IsFirstAgain text (tokens_of text).0 word
 
--- and it is the word that is told of what was read, where its expansion has no unit, as it is shown
+-- and it is the word that is reported of what was read, where its expansion has no unit, as it is shown
 pub record IsToldTwice (text word : List ℕ) : Type 0 where
   pub again : List ℕ
   pub first : IsFirstAgain text (tokens_of text).0 again

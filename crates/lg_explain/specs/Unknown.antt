@@ -37,7 +37,7 @@ abbrev pub belongs : List Form → Rest → TokenKind → Bool
 belongs [] r kind = goes_on r kind
 belongs (form ∷ forms) r kind = true
 
--- what may come behind a token of it
+-- what may come after a token of it
 abbrev pub rest_on : Rest → TokenKind → Rest
 rest_on rest.FirstByte kind = rest.Bytes
 rest_on rest.FirstNumber kind = rest.Numbers
@@ -80,7 +80,7 @@ begins_none p Directive text = not (is_directive_of p text)
 begins_none p LabelMark text = false
 begins_none p kind text = true
 
--- the part behind a directive
+-- the part after a directive
 abbrev pub code_behind : Part → Part
 code_behind part.Data = part.Code
 code_behind p = p
@@ -92,7 +92,7 @@ abbrev pub part_begun : Part → TokenKind → List ℕ → Part
 part_begun p Directive text = part_by p text
 part_begun p kind text = p
 
--- the forms of the operands behind it
+-- the forms of the operands after it
 abbrev pub forms_in : Part → List Form → List Form
 forms_in part.Data forms = []
 forms_in p forms = forms
@@ -121,7 +121,7 @@ rest_begun p Word text = rest_of_word text
 rest_begun p Directive text = rest_of_directive p text
 rest_begun p kind text = rest.Nothing
 
--- ---- what stands behind a token
+-- ---- what is after a token
 abbrev pub part_behind : Part → List Form → Rest → TokenKind → (text : List ℕ) → Part
 part_behind p forms r kind text = if belongs forms r kind then p else part_begun p kind text
 

@@ -32,7 +32,7 @@ enum Gap {
     Found(u8),
 }
 
-// Whether a byte is white space.
+// Returns whether a byte is white space.
 fn is_space(byte: u8) -> bool
     ensures { result ≡ is_space byte }
 {
@@ -107,7 +107,7 @@ fn gap_behind(gap: Gap, byte: u8) -> Gap
     }
 }
 
-// The place after the last token of a text.
+// Returns the place after the last token of a text.
 fn last_end(text: &[u8]) -> usize
     requires { length text.now ≤ 16777216 }
     ensures { result ≡ end_behind 0 (tokens_of text.now).0 }
@@ -138,7 +138,7 @@ fn gap_at(text: &[u8], place: usize) -> Gap
     gap
 }
 
-// The byte that begins no token.
+// Returns the byte that begins no token.
 fn byte_of(gap: Gap) -> Option<u8>
     ensures { result ≡ byte_of gap }
 {
@@ -182,7 +182,7 @@ fn cause_of(byte: u8) -> &'static [u8]
     }
 }
 
-// The byte, and that.
+// Returns the byte, and that.
 fn byte_words(byte: u8) -> Shown
     ensures { result ≡ shown (byte_words byte) }
 {

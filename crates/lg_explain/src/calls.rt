@@ -9,7 +9,7 @@ ghost use Rattle.lg_node.specs.Labels.{is_labelled};
 use lg_node::refusals::{breaks_preparation, is_ellipsis, is_out_of_turn, needs_preparation};
 use lg_node::{ControlOp, Label, NodeList, Op, PlainOp};
 
-// Whether an operation is out of place: of a call that is being prepared it is known whether an `ellipsis` came.
+// Returns whether an operation is out of place: of a call that is being prepared it is known whether an `ellipsis` came.
 fn is_bad(call: Option<bool>, varies: bool, labelled: bool, op: Op) -> bool
     ensures { result ≡ is_bad call varies labelled op }
 {
@@ -26,7 +26,7 @@ fn is_bad(call: Option<bool>, varies: bool, labelled: bool, op: Op) -> bool
     }
 }
 
-// What is known of it behind an operation.
+// What is known of it after an operation.
 fn variadic_behind(call: Option<bool>, op: Op) -> Option<bool>
     ensures { result ≡ variadic_behind call op }
 {
@@ -38,7 +38,7 @@ fn variadic_behind(call: Option<bool>, op: Op) -> Option<bool>
     }
 }
 
-// Whether the open function has variable arguments, behind an operation.
+// Returns whether the open function has variable arguments, after an operation.
 fn varies_by(varies: bool, call: Option<bool>, op: Op) -> bool
     ensures { result ≡ varies_by varies call op }
 {
@@ -49,7 +49,7 @@ fn varies_by(varies: bool, call: Option<bool>, op: Op) -> bool
     }
 }
 
-// The first label that is bound at a node.
+// Returns the first label that is bound at a node.
 fn label_at(nodes: &NodeList, index: u32) -> Option<Label>
     requires { index < length nodes.now.nodes }
     ensures label { result ≡ label_at nodes.now.places index }
@@ -58,7 +58,7 @@ fn label_at(nodes: &NodeList, index: u32) -> Option<Label>
     nodes.first_at(index)
 }
 
-/// The label that is bound at the first node that is out of place in the preparing of a call, where a call is being prepared there.
+/// Returns the label that is bound at the first node that is out of place in the preparing of a call, where a call is being prepared there.
 pub fn first_between(nodes: &NodeList) -> Option<Label>
     ensures { result ≡ option_flatten (first_in (bad_call_at nodes.now) nodes.now) }
 {

@@ -1,4 +1,4 @@
-//! Laws of the words that are told. The functions do nothing: their contracts are the laws.
+//! Laws of the words that are reported. The functions do nothing: their contracts are the laws.
 
 ghost use Rattle.lg_explain.specs.Blamed.{LabelsAreBlamed, WordsAreBlamed};
 ghost use Rattle.lg_explain.specs.FormsTaken.{FormsAreTaken};
@@ -6,14 +6,14 @@ ghost use Rattle.lg_explain.specs.MisfitsRefused.{MisfitsAreRefused};
 ghost use Rattle.lg_explain.specs.ReasonsHold.{ReasonsHold};
 ghost use Rattle.lg_explain.specs.TwiceMade.{FirstIsMadeTwice, FirstIsTold};
 
-/// The label that is told of nodes that are refused is the one that the kind blames at the first node that is refused, whose line the refusal has: the first
-/// operand that is a label which nothing binds, the first that leads where it may not, or the first label that is bound there while a call is being prepared.
-/// None is told exactly where there is no such label.
+/// The label that is reported of nodes that are refused is the one that the kind blames at the first node that is refused, whose line the refusal has: the
+/// first operand that is a label which nothing binds, the first that leads where it may not, or the first label that is bound there while a call is being
+/// prepared. None is reported exactly where there is no such label.
 pub fn labels_are_blamed()
     ensures { LabelsAreBlamed }
 {}
 
-/// The word that is told of what was read, whose unit is refused, is that of this label.
+/// The word that is reported of what was read, whose unit is refused, is that of this label.
 pub fn words_are_blamed()
     ensures { WordsAreBlamed }
 {}
@@ -23,7 +23,7 @@ pub fn first_is_made_twice()
     ensures { FirstIsMadeTwice }
 {}
 
-/// And it is the word that is told of what was read, whose expansion has no unit.
+/// And it is the word that is reported of what was read, whose expansion has no unit.
 pub fn first_is_told()
     ensures { FirstIsTold }
 {}

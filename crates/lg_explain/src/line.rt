@@ -9,7 +9,7 @@ use std::marker::Model;
 // The most bytes of a line that are shown.
 const MOST_SHOWN: usize = 160;
 
-// The place of the first line feed.
+// Returns the place of the first line feed.
 fn first_feed(text: &[u8]) -> Option<usize>
     ensures value { result ≡ first_feed text.now }
     ensures within { IfSome result (λ at. at < length text.now) }
@@ -17,7 +17,7 @@ fn first_feed(text: &[u8]) -> Option<usize>
     text.iter().position(|byte| *byte == b'\n')
 }
 
-// What stands before it.
+// What is before it.
 fn first_line(text: &[u8]) -> &[u8]
     ensures { result.now ≡ first_line text.now }
 {
@@ -27,7 +27,7 @@ fn first_line(text: &[u8]) -> &[u8]
     }
 }
 
-// What stands behind it.
+// What is after it.
 fn behind_line(text: &[u8]) -> &[u8]
     ensures { result.now ≡ behind_line text.now }
 {
@@ -37,7 +37,7 @@ fn behind_line(text: &[u8]) -> &[u8]
     }
 }
 
-// What stands behind the first so many line feeds.
+// What is after the first n line feeds.
 fn behind_lines(text: &[u8], count: u32) -> &[u8]
     ensures { result.now ≡ behind_lines count text.now }
 {
@@ -48,14 +48,14 @@ fn behind_lines(text: &[u8], count: u32) -> &[u8]
     rest
 }
 
-/// The line of a text by its number, counted from 1, without its line feed: no bytes where the text has fewer lines.
+/// Returns the line of a text by its number, counted from 1, without its line feed: no bytes where the text has fewer lines.
 pub fn line_in(text: &[u8], line: u32) -> &[u8]
     ensures { result.now ≡ line_in text.now line }
 {
     first_line(behind_lines(text, line.saturating_sub(1)))
 }
 
-// Whether a byte is a control byte other than a tab.
+// Returns whether a byte is a control byte other than a tab.
 fn is_hidden(byte: u8) -> bool
     ensures { result ≡ is_hidden byte }
 {
@@ -106,7 +106,7 @@ impl Shown {
         self.len += 1;
     }
 
-    // The front of a line, of which no more is shown.
+    // Returns the front of a line; no more of it is shown.
     fn front(line: &[u8]) -> &[u8]
         ensures value { result.now ≡ take most_shown line.now }
         ensures short { length result.now ≤ most_shown }
@@ -118,7 +118,7 @@ impl Shown {
         }
     }
 
-    /// A line as it is shown.
+    /// Returns a line as it is shown.
     pub fn of(line: &[u8]) -> Shown
         ensures { result ≡ shown line.now }
     {
@@ -129,7 +129,7 @@ impl Shown {
         shown
     }
 
-    // Whether there is room for a byte more.
+    // Returns whether there is room for a byte more.
     fn has_room(&self) -> bool
         ensures { result ≡ nat_lt (length self.now) most_shown }
     {

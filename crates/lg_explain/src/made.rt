@@ -35,7 +35,7 @@ impl Made {
         }
     }
 
-    /// Whether a word was made.
+    /// Returns whether a word was made.
     pub fn has(&self, word: &[u8]) -> bool
         ensures { result ≡ is_made self.now word.now }
     {

@@ -19,14 +19,14 @@ use lg_operand::{behind_mark, host_operand, register_operand};
 
 // ---- a token at the place of an operand
 
-// Whether it is refused for its form.
+// Returns whether it is refused for its form.
 fn is_bad(read: Result<Operand, RefusalKind>) -> bool
     ensures { result ≡ is_bad read }
 {
     matches!(read, Err(RefusalKind::BadOperand))
 }
 
-// Whether a form is that of a name, which its function makes or has made.
+// Returns whether a form is that of a name, which its function makes or has made.
 fn takes_name(form: Form) -> bool
     ensures { result ≡ takes_name form }
 {
@@ -36,7 +36,7 @@ fn takes_name(form: Form) -> bool
     )
 }
 
-// Whether a token is of another form.
+// Returns whether a token is of another form.
 fn is_misfit(form: Form, kind: TokenKind, text: &[u8], value: u64) -> bool
     ensures { result ≡ is_misfit form kind text.now value }
 {
@@ -52,14 +52,14 @@ fn is_misfit(form: Form, kind: TokenKind, text: &[u8], value: u64) -> bool
     }
 }
 
-// Whether a register of a form is written.
+// Returns whether a register of a form is written.
 fn is_written(form: Form) -> bool
     ensures { result ≡ is_written form }
 {
     matches!(form, Form::Write | Form::Update)
 }
 
-// Whether the second of two results goes to the register of the first.
+// Returns whether the second of two results goes to the register of the first.
 fn is_repeated(form: Form, before: &[u8], text: &[u8]) -> bool
     ensures { result ≡ is_repeated form before.now text.now }
 {
@@ -68,7 +68,7 @@ fn is_repeated(form: Form, before: &[u8], text: &[u8]) -> bool
 
 // ---- a token after a directive or `name`
 
-// Whether a number is a power of two from 1 to 4,096.
+// Returns whether a number is a power of two from 1 to 4,096.
 fn is_data_alignment(number: u64) -> bool
     ensures { result ≡ is_data_alignment number }
 {
@@ -78,7 +78,7 @@ fn is_data_alignment(number: u64) -> bool
     )
 }
 
-// Whether a directive takes a number.
+// Returns whether a directive takes a number.
 fn number_fits(word: &[u8], value: u64) -> bool
     ensures { result ≡ number_fits word.now value }
 {
@@ -91,7 +91,7 @@ fn number_fits(word: &[u8], value: u64) -> bool
     }
 }
 
-// Whether a statement of one token takes it.
+// Returns whether a statement of one token takes it.
 fn token_fits(word: &[u8], kind: TokenKind, value: u64) -> bool
     ensures { result ≡ token_fits word.now kind value }
 {
@@ -102,7 +102,7 @@ fn token_fits(word: &[u8], kind: TokenKind, value: u64) -> bool
     }
 }
 
-// Whether what is left of a statement takes a token.
+// Returns whether what is left of a statement takes a token.
 fn rest_takes(rest: Rest, word: &[u8], kind: TokenKind, value: u64) -> bool
     ensures { result ≡ rest_takes rest word.now kind value }
 {
@@ -116,7 +116,7 @@ fn rest_takes(rest: Rest, word: &[u8], kind: TokenKind, value: u64) -> bool
 
 // ---- a token at a statement's place for one, and the end of the text there
 
-// Whether the statement at hand does not take a token.
+// Returns whether the statement at hand does not take a token.
 fn is_misfit_at(
     left: &[Form],
     rest: Rest,
@@ -134,14 +134,14 @@ fn is_misfit_at(
     }
 }
 
-// Whether a statement without operands left wants a token.
+// Returns whether a statement without operands left wants a token.
 fn wants_token(rest: Rest) -> bool
     ensures { result ≡ wants_token rest }
 {
     matches!(rest, Rest::Token | Rest::FirstByte | Rest::FirstNumber)
 }
 
-// Whether a statement wants a token.
+// Returns whether a statement wants a token.
 fn lacks(left: &[Form], rest: Rest) -> bool
     ensures { result ≡ lacks left.now rest }
 {
@@ -153,7 +153,7 @@ fn lacks(left: &[Form], rest: Rest) -> bool
 
 // ---- the words
 
-// The forms of all operands of a statement.
+// Returns the forms of all operands of a statement.
 fn all_forms(word: &[u8]) -> &'static [Form]
     ensures { result.now ≡ all_forms word.now }
 {
@@ -174,7 +174,7 @@ fn listed(left: &[Form], word: &[u8]) -> &'static [Form]
     }
 }
 
-// The number of an operand, counted from 1.
+// Returns the number of an operand, counted from 1.
 fn ordinal(done: usize) -> &'static [u8]
     ensures { result.now ≡ ordinal done }
 {
@@ -189,7 +189,7 @@ fn ordinal(done: usize) -> &'static [u8]
     }
 }
 
-// The number of the first operand that is left.
+// Returns the number of the first operand that is left.
 fn number_words(all: &[Form], left: &[Form]) -> &'static [u8]
     ensures { result.now ≡ number_words all.now left.now }
 {
@@ -249,7 +249,7 @@ fn first_words(all: &[Form], rest: Rest, word: &[u8]) -> &'static [u8]
     }
 }
 
-// Whether a place is that of a second result.
+// Returns whether a place is that of a second result.
 fn is_second(before: Form, form: Form) -> bool
     ensures { result ≡ is_second before form }
 {
@@ -314,7 +314,7 @@ fn places(all: &'static [Form], rest: Rest, word: &[u8]) -> Shown
     ])
 }
 
-// The words, whose parts are these.
+// Returns the words, whose parts are these.
 fn words_by<'a>(number: &'a [u8], word: &'a [u8], there: &'a [u8], places: &'a [u8]) -> Shown
     ensures { result ≡ shown (words_by number.entry.now word.entry.now there.entry.now places.entry.now) }
 {
@@ -332,7 +332,7 @@ fn words_by<'a>(number: &'a [u8], word: &'a [u8], there: &'a [u8], places: &'a [
     ])
 }
 
-// The words that say what is at the place and what belongs there.
+// Returns the words that say what is at the place and what belongs there.
 fn misfit_words(left: &[Form], rest: Rest, word: &[u8], there: &[u8]) -> Shown
     ensures { result ≡ shown (misfit_words left.now rest word.now there.now) }
 {
@@ -376,7 +376,7 @@ fn missing(left: &[Form], rest: Rest, word: &[u8]) -> Option<Shown>
     }
 }
 
-// The first token of the statement at hand, after a token.
+// Returns the first token of the statement at hand, after a token.
 fn word_behind<'a>(
     left: &[Form],
     rest: Rest,
@@ -393,8 +393,8 @@ fn word_behind<'a>(
     }
 }
 
-/// The first token of a text of at most 16,777,216 bytes that is no operand which its place takes, and the end of the text where an operand is missing: in
-/// words, with the forms of all operands there, as they are shown.
+/// Returns the first token of a text of at most 16,777,216 bytes that is no operand which its place takes, and the end of the text where an operand is
+/// missing: in words, with the forms of all operands there, as they are shown.
 pub fn first_misfit(text: &[u8]) -> Option<Shown>
     requires { length text.now ≤ 16777216 }
     ensures { result ≡ option_map shown (first_misfit text.now) }

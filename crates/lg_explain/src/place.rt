@@ -42,7 +42,7 @@ pub enum Rest {
 
 // ---- what belongs to the statement at hand
 
-/// Whether a token is a number, a character or an expression.
+/// Returns whether a token is a number, a character or an expression.
 pub fn is_number(kind: TokenKind) -> bool
     ensures { result ≡ is_number kind }
 {
@@ -52,7 +52,7 @@ pub fn is_number(kind: TokenKind) -> bool
     )
 }
 
-// Whether a token belongs to what is left, where no operand is.
+// Returns whether a token belongs to what is left, where no operand is.
 fn goes_on(rest: Rest, kind: TokenKind) -> bool
     ensures { result ≡ goes_on rest kind }
 {
@@ -66,7 +66,7 @@ fn goes_on(rest: Rest, kind: TokenKind) -> bool
     }
 }
 
-/// Whether a token belongs to the statement at hand.
+/// Returns whether a token belongs to the statement at hand.
 pub fn belongs(forms: &[Form], rest: Rest, kind: TokenKind) -> bool
     ensures { result ≡ belongs forms.now rest kind }
 {
@@ -76,7 +76,7 @@ pub fn belongs(forms: &[Form], rest: Rest, kind: TokenKind) -> bool
     }
 }
 
-// What may come behind a token of what is left.
+// What may come after a token of what is left.
 fn rest_on(rest: Rest, kind: TokenKind) -> Rest
     ensures { result ≡ rest_on rest kind }
 {
@@ -90,49 +90,49 @@ fn rest_on(rest: Rest, kind: TokenKind) -> Rest
 
 // ---- what a token begins
 
-// Whether it is the data part.
+// Returns whether it is the data part.
 fn is_data(part: Part) -> bool
     ensures { result ≡ is_data part }
 {
     matches!(part, Part::Data)
 }
 
-// Whether a word begins a statement of the code part.
+// Returns whether a word begins a statement of the code part.
 fn is_code_word(text: &[u8]) -> bool
     ensures { result ≡ is_code_word text.now }
 {
     text == b"name".as_slice() || op_of(text).is_some()
 }
 
-// Whether a word begins a statement of a part.
+// Returns whether a word begins a statement of a part.
 fn is_word_of(part: Part, text: &[u8]) -> bool
     ensures { result ≡ is_word_of part text.now }
 {
     text == b"note".as_slice() || (!is_data(part) && is_code_word(text))
 }
 
-// Whether numbers follow a directive.
+// Returns whether numbers follow a directive.
 fn is_values(text: &[u8]) -> bool
     ensures { result ≡ is_values text.now }
 {
     text == b".s".as_slice() || (text == b".i".as_slice() || text == b".l".as_slice())
 }
 
-// Whether a directive makes data.
+// Returns whether a directive makes data.
 fn is_item(text: &[u8]) -> bool
     ensures { result ≡ is_item text.now }
 {
     text == b".size".as_slice() || (text == b".c".as_slice() || is_values(text))
 }
 
-// Whether `.data` may come in a part.
+// Returns whether `.data` may come in a part.
 fn takes_data(part: Part) -> bool
     ensures { result ≡ takes_data part }
 {
     matches!(part, Part::First)
 }
 
-// Whether a directive begins a statement of a part.
+// Returns whether a directive begins a statement of a part.
 fn is_directive_of(part: Part, text: &[u8]) -> bool
     ensures { result ≡ is_directive_of part text.now }
 {
@@ -143,7 +143,7 @@ fn is_directive_of(part: Part, text: &[u8]) -> bool
         || (text == b".align".as_slice() || (is_data(part) && is_item(text)))
 }
 
-// Whether a token begins no statement of a part.
+// Returns whether a token begins no statement of a part.
 fn begins_none(part: Part, kind: TokenKind, text: &[u8]) -> bool
     ensures { result ≡ begins_none part kind text.now }
 {
@@ -155,7 +155,7 @@ fn begins_none(part: Part, kind: TokenKind, text: &[u8]) -> bool
     }
 }
 
-// The part behind `.code`.
+// Returns the part after `.code`.
 fn code_behind(part: Part) -> Part
     ensures { result ≡ code_behind part }
 {
@@ -165,7 +165,7 @@ fn code_behind(part: Part) -> Part
     }
 }
 
-// The part behind a directive.
+// Returns the part after a directive.
 fn part_by(part: Part, text: &[u8]) -> Part
     ensures { result ≡ part_by part text.now }
 {
@@ -178,7 +178,7 @@ fn part_by(part: Part, text: &[u8]) -> Part
     }
 }
 
-// The part behind the first token of a statement.
+// Returns the part after the first token of a statement.
 fn part_begun(part: Part, kind: TokenKind, text: &[u8]) -> Part
     ensures { result ≡ part_begun part kind text.now }
 {
@@ -198,7 +198,7 @@ fn forms_in(part: Part, forms: &'static [Form]) -> &'static [Form]
     }
 }
 
-// The forms of the operands behind a directive of the code part.
+// Returns the forms of the operands after a directive of the code part.
 fn align_forms(text: &[u8]) -> &'static [Form]
     ensures { result.now ≡ align_forms text.now }
 {
@@ -209,7 +209,7 @@ fn align_forms(text: &[u8]) -> &'static [Form]
     }
 }
 
-// The forms of the operands behind the first token of a statement.
+// Returns the forms of the operands after the first token of a statement.
 fn forms_begun(part: Part, kind: TokenKind, text: &[u8]) -> &'static [Form]
     ensures { result.now ≡ forms_begun part kind text.now }
 {
@@ -272,7 +272,7 @@ fn rest_begun(part: Part, kind: TokenKind, text: &[u8]) -> Rest
     }
 }
 
-// ---- what stands behind a token
+// ---- what is after a token
 
 /// Forms without the first.
 pub fn forms_on(forms: &'static [Form]) -> &'static [Form]
@@ -284,7 +284,7 @@ pub fn forms_on(forms: &'static [Form]) -> &'static [Form]
     }
 }
 
-// What may come behind a token of the statement at hand.
+// What may come after a token of the statement at hand.
 fn rest_on_in(forms: &[Form], rest: Rest, kind: TokenKind) -> Rest
     ensures { result ≡ rest_on_in forms.now rest kind }
 {
@@ -294,7 +294,7 @@ fn rest_on_in(forms: &[Form], rest: Rest, kind: TokenKind) -> Rest
     }
 }
 
-/// The part behind a token.
+/// Returns the part after a token.
 pub fn part_behind(part: Part, forms: &[Form], rest: Rest, kind: TokenKind, text: &[u8]) -> Part
     ensures { result ≡ part_behind part forms.now rest kind text.now }
 {
@@ -305,7 +305,7 @@ pub fn part_behind(part: Part, forms: &[Form], rest: Rest, kind: TokenKind, text
     }
 }
 
-/// The forms of the operands that are left behind a token.
+/// Returns the forms of the operands that are left after a token.
 pub fn forms_behind(
     part: Part,
     forms: &'static [Form],
@@ -322,7 +322,7 @@ pub fn forms_behind(
     }
 }
 
-/// What the statement at hand takes behind a token, where no operand is left.
+/// Returns what the statement at hand takes after a token, where no operand is left.
 pub fn rest_behind(part: Part, forms: &[Form], rest: Rest, kind: TokenKind, text: &[u8]) -> Rest
     ensures { result ≡ rest_behind part forms.now rest kind text.now }
 {
@@ -333,7 +333,7 @@ pub fn rest_behind(part: Part, forms: &[Form], rest: Rest, kind: TokenKind, text
     }
 }
 
-/// Whether a token begins a statement and there is none that it begins.
+/// Returns whether a token begins a statement and there is none that it begins.
 pub fn is_unknown(part: Part, forms: &[Form], rest: Rest, kind: TokenKind, text: &[u8]) -> bool
     ensures { result ≡ is_unknown part forms.now rest kind text.now }
 {

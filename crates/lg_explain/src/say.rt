@@ -44,7 +44,7 @@ fn write_said<'a, E: Sink>(
     write_parts(err, &[file, b":", line, b": ", sentence, b"\n"])
 }
 
-// Writes a sentence with a word behind it, whose parts are these.
+// Writes a sentence with a word after it, whose parts are these.
 fn write_word<'a, E: Sink>(
     file: &'a [u8],
     line: &'a [u8],
@@ -61,7 +61,7 @@ fn write_word<'a, E: Sink>(
     )
 }
 
-// Whether what is blamed is a sentence of its own.
+// Returns whether what is blamed is a sentence of its own.
 fn is_detailed(kind: RefusalKind) -> bool
     ensures { result ≡ is_detailed kind }
 {
@@ -85,7 +85,7 @@ fn write_both<E: Sink>(
     }
 }
 
-// Writes the sentence of a kind, and what it blames: a word behind it, or a sentence of its own.
+// Writes the sentence of a kind, and what it blames: a word after it, or a sentence of its own.
 fn write_blamed<E: Sink>(
     kind: RefusalKind,
     file: &[u8],
@@ -141,7 +141,7 @@ pub fn write_refused<E: Sink>(
     }
 }
 
-// The text of a register.
+// Returns the text of a register.
 fn register_word(register: Reg) -> &'static [u8]
     ensures { result.now ≡ register_word register }
 {
@@ -309,7 +309,7 @@ fn write_sentence_of<E: Sink>(reason: Reason, err: &mut E) -> Result<(), SinkFau
     }
 }
 
-// Writes what stands before that.
+// Writes what is before that.
 fn write_item<E: Sink>(file: &[u8], line: u32, reason: Reason, err: &mut E) -> Result<(), SinkFault>
     ensures { WroteTo (on_sink E.taken E.faults err.old err.new) result (item_words file.now line reason) }
 {
@@ -372,7 +372,7 @@ fn write_parts_of<E: Sink>(registers: &[(Reg, Option<u64>)], err: &mut E) -> Res
     }
 }
 
-// Writes where the registers are told.
+// Writes where the registers are reported.
 fn write_where<E: Sink>(file: &[u8], line: u32, err: &mut E) -> Result<(), SinkFault>
     ensures { WroteTo (on_sink E.taken E.faults err.old err.new) result (where_words file.now line) }
 {

@@ -1,4 +1,4 @@
-// Where the portable machine stands before a step that is undefined.
+// Where the portable machine is before a step that is undefined.
 
 ghost use Rattle.std.specs.Prelude.{◌≡◌};
 ghost use Rattle.lg_explain.specs.Stops.{IsStuck, registers_of};

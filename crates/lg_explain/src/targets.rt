@@ -10,7 +10,7 @@ use lg_node::labels::home_in;
 use lg_node::refusals::{is_astray, is_missing};
 use lg_node::{Form, Label, NodeList, Op, Operand};
 
-// The label that an operand is.
+// Returns the label that an operand is.
 fn label_in(operand: Operand) -> Option<Label>
     ensures { result ≡ label_in operand }
 {
@@ -22,7 +22,7 @@ fn label_in(operand: Operand) -> Option<Label>
 
 // ---- labels that nothing binds
 
-// The first of them among operands.
+// Returns the first of them among operands.
 fn missing_operand(nodes: &NodeList, operands: &[Operand]) -> Option<Operand>
     ensures { result ≡ find (is_missing nodes.now.places) operands.now }
 {
@@ -42,7 +42,7 @@ fn missing_in(nodes: &NodeList, operands: &[Operand]) -> Option<Label>
     }
 }
 
-/// The first label of the nodes that nothing binds.
+/// Returns the first label of the nodes that nothing binds.
 pub fn first_missing(nodes: &NodeList) -> Option<Label>
     ensures { result ≡ first_in (missing_at nodes.now) nodes.now }
 {
@@ -57,7 +57,7 @@ pub fn first_missing(nodes: &NodeList) -> Option<Label>
 
 // ---- labels that lead where they may not
 
-// The first of the operands that does, by its form.
+// Returns the first of the operands that does, by its form.
 fn astray_in(
     nodes: &NodeList,
     homes: &[Option<u32>],
@@ -84,7 +84,7 @@ fn astray_in(
     }
 }
 
-/// The first label of the nodes that leads where it may not. The table has the function of each node.
+/// Returns the first label of the nodes that leads where it may not. The table has the function of each node.
 pub fn first_astray(nodes: &NodeList, homes: &[Option<u32>]) -> Option<Label>
     requires { AreHomes nodes.now.nodes homes.now }
     ensures { result ≡ first_in (astray_at nodes.now) nodes.now }

@@ -18,14 +18,14 @@ use std::alloc::Global;
 
 // ---- what a token does
 
-/// The operation that a word names.
+/// Returns the operation that a word names.
 pub fn op_of(word: &[u8]) -> Option<Op>
     ensures { result ≡ op_of word.now }
 {
     Op::by_name(word)
 }
 
-// The forms of the operands that have tokens: `va_start` has one more.
+// Returns the forms of the operands that have tokens: `va_start` has one more.
 fn written_forms(op: Op) -> &'static [Form]
     ensures { result.now ≡ written_forms op }
 {
@@ -45,7 +45,7 @@ pub fn forms_by(op: Option<Op>) -> &'static [Form]
     }
 }
 
-// The forms of the operands behind a word that begins a statement.
+// Returns the forms of the operands after a word that begins a statement.
 fn forms_of_word(word: &[u8]) -> &'static [Form]
     ensures { result.now ≡ forms_of_word word.now }
 {
@@ -56,7 +56,7 @@ fn forms_of_word(word: &[u8]) -> &'static [Form]
     }
 }
 
-// The forms of the operands that are left behind a token.
+// Returns the forms of the operands that are left after a token.
 fn forms_behind(forms: &'static [Form], kind: TokenKind, text: &[u8]) -> &'static [Form]
     ensures { result.now ≡ forms_behind forms.now kind text.now }
 {
@@ -67,21 +67,21 @@ fn forms_behind(forms: &'static [Form], kind: TokenKind, text: &[u8]) -> &'stati
     }
 }
 
-// Whether a token makes a label.
+// Returns whether a token makes a label.
 fn makes_label(forms: &[Form], kind: TokenKind) -> bool
     ensures { result ≡ makes_label forms.now kind }
 {
     forms.is_empty() && kind == TokenKind::LabelMark
 }
 
-// Whether a name is made at the place of an operand.
+// Returns whether a name is made at the place of an operand.
 fn makes_name(form: Form) -> bool
     ensures { result ≡ makes_name form }
 {
     matches!(form, Form::NewArgument | Form::NewLocal)
 }
 
-// Whether a token makes a name.
+// Returns whether a token makes a name.
 fn makes_name_in(forms: &[Form], kind: TokenKind) -> bool
     ensures { result ≡ makes_name_in forms.now kind }
 {
@@ -91,7 +91,7 @@ fn makes_name_in(forms: &[Form], kind: TokenKind) -> bool
     }
 }
 
-// Whether a token begins a function.
+// Returns whether a token begins a function.
 fn begins_function(forms: &[Form], kind: TokenKind, text: &[u8]) -> bool
     ensures { result ≡ begins_function forms.now kind text.now }
 {
@@ -137,7 +137,7 @@ fn made_again(words: &Made, word: &[u8]) -> Option<Shown>
     }
 }
 
-// The word that a token makes, where it was made before.
+// Returns the word that a token makes, where it was made before.
 fn again(forms: &[Form], kind: TokenKind, text: &[u8], labels: &Made, names: &Made) -> Option<Shown>
     ensures { result ≡ option_map shown (again forms.now kind text.now labels.now names.now) }
 {
@@ -186,7 +186,7 @@ fn make_name(
     }
 }
 
-/// The bytes of a token.
+/// Returns the bytes of a token.
 pub fn text_of(text: &[u8], token: Token) -> &[u8]
     requires order { token.start < token.end }
     requires within { token.end ≤ length text.now }
@@ -221,8 +221,8 @@ fn first_again(
     Ok(None)
 }
 
-/// The first word of a text of at most 16,777,216 bytes that is made a second time, as it is shown: of a label, or of a name where `arg` or `allocai` makes
-/// it, which its function made before.
+/// Returns the first word of a text of at most 16,777,216 bytes that is made a second time, as it is shown: of a label, or of a name where `arg` or `allocai`
+/// makes it, which its function made before.
 pub fn made_twice(alloc: Global, text: &[u8]) -> Result<Option<Shown>, OutOfMemory>
     requires { length text.now ≤ 16777216 }
     ensures { IfOk result (λ word. word ≡ option_map shown (made_twice text.now)) }

@@ -12,7 +12,7 @@ use crate::twice::text_of;
 use lg_lex::{Lexer, TokenKind};
 use lg_node::Form;
 
-// The part in which a token is.
+// Returns the part in which a token is.
 fn part_words(part: Part) -> &'static [u8]
     ensures { result.now ≡ part_words part }
 {
@@ -29,7 +29,7 @@ fn both<'a>(text: &'a [u8], part: &'a [u8]) -> Shown
     Shown::of_row(&[text, part])
 }
 
-// The text of a token, and the part.
+// Returns the text of a token, and the part.
 fn unknown_words(part: Part, text: &[u8]) -> Shown
     ensures { result ≡ shown (unknown_words part text.now) }
 {
@@ -47,7 +47,7 @@ fn unknown(part: Part, forms: &[Form], rest: Rest, kind: TokenKind, text: &[u8])
     }
 }
 
-/// The first token of a text of at most 16,777,216 bytes that is where a statement begins and begins none, as it is shown,
+/// Returns the first token of a text of at most 16,777,216 bytes that is where a statement begins and begins none, as it is shown,
 /// and the part.
 pub fn first_unknown(text: &[u8]) -> Option<Shown>
     requires { length text.now ≤ 16777216 }

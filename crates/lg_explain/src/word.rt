@@ -24,7 +24,7 @@ use std::alloc::Global;
 
 // ---- of nodes
 
-// The label that a kind blames at the first node that it refuses.
+// Returns the label that a kind blames at the first node that it refuses.
 fn label_of(
     alloc: Global,
     kind: RefusalKind,
@@ -43,7 +43,7 @@ fn label_of(
     }
 }
 
-// The word of a label, as it is shown.
+// Returns the word of a label, as it is shown.
 fn word_of(nodes: &NodeList, label: Label) -> Option<Shown>
     ensures { result ≡ option_map shown (word_of nodes.now label) }
 {
@@ -54,7 +54,7 @@ fn word_of(nodes: &NodeList, label: Label) -> Option<Shown>
     }
 }
 
-// The word of that label.
+// Returns the word of that label.
 fn word_in(alloc: Global, kind: RefusalKind, nodes: &NodeList) -> Result<Option<Shown>, OutOfMemory>
     ensures { IfOk result (λ word. word ≡ option_map shown (word_in kind nodes.now)) }
 {
@@ -66,7 +66,7 @@ fn word_in(alloc: Global, kind: RefusalKind, nodes: &NodeList) -> Result<Option<
 
 // ---- of texts
 
-// The word of a text's tokens that a kind blames, or what is said of them.
+// Returns the word of a text's tokens that a kind blames, or what is said of them.
 fn token_in(alloc: Global, kind: RefusalKind, text: &[u8]) -> Result<Option<Shown>, OutOfMemory>
     requires { length text.now ≤ 16777216 }
     ensures { IfOk result (λ word. word ≡ option_map shown (token_in kind text.now)) }
@@ -80,7 +80,7 @@ fn token_in(alloc: Global, kind: RefusalKind, text: &[u8]) -> Result<Option<Show
     }
 }
 
-// The word that a kind blames in a text.
+// Returns the word that a kind blames in a text.
 fn blamed_as(alloc: Global, kind: RefusalKind, text: &[u8]) -> Result<Option<Shown>, OutOfMemory>
     requires { length text.now ≤ 16777216 }
     ensures { IfOk result (λ word. word ≡ option_map shown (blamed_as kind text.now (unit_of text.now))) }
@@ -92,7 +92,7 @@ fn blamed_as(alloc: Global, kind: RefusalKind, text: &[u8]) -> Result<Option<Sho
     }
 }
 
-// The word that a kind blames in what was read.
+// Returns the word that a kind blames in what was read.
 fn blamed_by(alloc: Global, kind: RefusalKind, read: &[u8]) -> Result<Option<Shown>, OutOfMemory>
     requires { length read.now ≤ 16777216 }
     ensures { IfOk result (λ word. word ≡ option_map shown (blamed_by kind (expanded read.now))) }
@@ -104,7 +104,7 @@ fn blamed_by(alloc: Global, kind: RefusalKind, read: &[u8]) -> Result<Option<Sho
     }
 }
 
-// Whether a kind is about a word.
+// Returns whether a kind is about a word.
 fn names_word(kind: RefusalKind) -> bool
     ensures { result ≡ names_word kind }
 {
@@ -120,8 +120,8 @@ fn names_word(kind: RefusalKind) -> bool
     )
 }
 
-/// The word that a refusal of what was read blames, by its kind, as it is shown: what was read, which has at most 16,777,216 bytes, is expanded and read
-/// once more for it.
+/// Returns the word that a refusal of what was read blames, by its kind, as it is shown: what was read, which has at most 16,777,216 bytes, is expanded and
+/// read once more for it.
 pub fn blamed_word(
     alloc: Global,
     kind: RefusalKind,

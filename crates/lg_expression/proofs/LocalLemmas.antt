@@ -6,7 +6,7 @@ use Rattle.lg_meaning.specs.States.{Frame}
 use Rattle.lg_node.specs.Locals.{offset_below}
 use Rattle.lg_expression.specs.Meanings.{LocalsLieInTheFrame}
 
--- the address of the last of locals that take so many bytes
+-- the address of the last of locals that take this many bytes
 address : (f : Frame) (bytes : ℕ) → bytes ≤ f.locals → f.locals + 144 ≤ f.sp → f.sp < 2 ^ 64 → add_words (frame_pointer f.sp) (offset_below bytes) ≡ f.sp - 144 - bytes
 address f bytes room low high = omega (arith, room, low, high)
 

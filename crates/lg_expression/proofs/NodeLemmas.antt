@@ -5,7 +5,7 @@ use Rattle.lg_node.specs.Nodes.{LabelledNodes, with_node}
 use Rattle.lg_node.specs.Unused.{IsUnused}
 use Rattle.lg_expression.specs.Units.{put_nodes}
 
--- nodes behind others
+-- nodes after others
 pub joined : (l : LabelledNodes) (a b : List Node) → put_nodes (put_nodes l a) b ≡ put_nodes l (a ++ b)
 joined l a b = ap (λ nodes. record l { nodes = nodes }) (append_assoc l.nodes a b)
 

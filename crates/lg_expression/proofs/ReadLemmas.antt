@@ -17,7 +17,7 @@ use Rattle.lg_expression.specs.Reading.{Fails, State, argument_from, at_digits, 
 use Rattle.lg_expression.specs.Steps.{IsExpression}
 use Rattle.lg_expression.proofs.SpelledLemmas.{at, by_sign, fits, fits_operand, most_closeness, not_le, operation_given, spelled_read}
 
--- a text that stands before operands, as spaces do
+-- a text that is before operands, as spaces do
 abbrev pub Keeps : List ℕ → Type 0
 Keeps before = (t : List ℕ) (s : List Step) → Spells operand t s → Spells operand (before ++ t) s
 
@@ -35,7 +35,7 @@ lowered (suc level) least t s few d =
 
 -- ---- what waits, and the text before it
 
--- a sign that stands before an operand, with what stands before it
+-- a sign that is before an operand, with what is before it
 pub record IsBefore (Below : List ℕ → List Step → Type 0) (byte : ℕ) (text : List ℕ) (steps : List Step) : Type 0 where
   pub front : List ℕ
   pub before : List ℕ
@@ -43,7 +43,7 @@ pub record IsBefore (Below : List ℕ → List Step → Type 0) (byte : ℕ) (te
   pub keeps : Keeps before
   pub is : text ≡ front ++ before ++ byte ∷ []
 
--- an operation that stands behind its first operand
+-- an operation that is after its first operand
 pub record IsBehind (Below : List ℕ → List Step → Type 0) (op : BinaryOp) (waiting : List Waiting) (text : List ℕ) (steps : List Step) : Type 0 where
   pub front : List ℕ
   pub front_steps : List Step
@@ -57,14 +57,14 @@ pub record IsBehind (Below : List ℕ → List Step → Type 0) (op : BinaryOp) 
   pub is : text ≡ front ++ first ++ byte ∷ []
   pub steps_are : steps ≡ front_steps ++ first_steps
 
--- this waits behind a text, which has given these steps
+-- this waits after a text, which has given these steps
 abbrev pub Wants : List Waiting → List ℕ → List Step → Type 0
 Wants [] text steps = (text ≡ []) × (steps ≡ [])
 Wants (waits.Open ∷ ws) text steps = IsBefore (Wants ws) opening text steps
 Wants (waits.Negate ∷ ws) text steps = IsBefore (Wants ws) minus text steps
 Wants (waits.Operation op ∷ ws) text steps = IsBehind (Wants ws) op ws text steps
 
--- a text of a level stands behind what waits
+-- a text of a level is after what waits
 pub record Has (level : ℕ) (waiting : List Waiting) (steps : List Step) (text : List ℕ) : Type 0 where
   pub front : List ℕ
   pub front_steps : List Step
@@ -134,7 +134,7 @@ with_steps level ws a b text e h = let P : List Step → Type 0 = λ l. Has leve
 more : (steps rest : List Step) (x : Step) → (steps ++ x ∷ []) ++ rest ≡ steps ++ x ∷ rest
 more steps rest x = append_assoc steps (x ∷ []) rest
 
--- behind all that goes the text has the level of what does not
+-- after all that goes the text has the level of what does not
 pub released_has : (level least : ℕ) (ws : List Waiting) (steps : List Step) (text : List ℕ) → least ≤ level → least ≤ 3 → Has level ws steps text → Has least (kept least ws) (steps ++ given least ws) text
 released_has level least [] steps text few small h = with_steps least [] steps (steps ++ []) text (sym (append-nil steps)) (lowered_has level least [] steps text few refl h)
 released_has level least (waits.Open ∷ ws) steps text few small h =
@@ -182,7 +182,7 @@ Stands Operand waiting steps text = WantsOperand waiting steps text
 Stands (Digits n) waiting steps text = HasDigits n waiting steps text
 Stands Operator waiting steps text = Has operand waiting steps text
 
--- this text was read, and nothing stands open but what waits
+-- this text was read, and nothing is open but what waits
 abbrev pub IsRead : State → List ℕ → Type 0
 IsRead s text = Stands s.next s.waiting s.steps text
 
@@ -197,7 +197,7 @@ if_after : (b : Bool) (x y : Result State ReadError) (text : List ℕ) → (b �
 if_after true x y text holds fails = holds refl
 if_after false x y text holds fails = fails refl
 
--- an operand stands where one is wanted
+-- an operand is where one is expected
 operand_has : (waiting : List Waiting) (steps : List Step) (text t : List ℕ) (s : List Step) → WantsOperand waiting steps text → Spells operand t s → Has operand waiting (steps ++ s) (text ++ t)
 operand_has waiting steps text t s h d = record {
   front = h.front;

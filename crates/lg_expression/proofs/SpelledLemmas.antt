@@ -95,7 +95,7 @@ by_sign P mul div add sub lt gt eq byte op e =
 taken_sign : (byte : ℕ) (op : BinaryOp) (s : State) → operation_at byte ≡ Some op → taken byte s ≡ operator_from (ended s).next op (ended s)
 taken_sign byte op s e = by_sign (λ b o. taken b s ≡ operator_from (ended s).next o (ended s)) refl refl refl refl refl refl refl byte op e
 
--- ---- texts one behind the other
+-- ---- texts one after the other
 
 behind_by : (r : Result State ReadError) (a b : List ℕ) → ((s : State) → read_on s (a ++ b) ≡ then_on (read_on s a) (λ t. read_on t b))
     → then_on r (λ t. read_on t (a ++ b)) ≡ then_on (then_on r (λ t. read_on t a)) (λ t. read_on t b)
@@ -133,9 +133,9 @@ numeral_read steps waiting (one_more ds n d w small) few =
     ∙ read_one (at steps waiting (Digits n)) (at steps waiting (Digits (n * 10 + d))) (48 + d) [] (taken_digit d (at steps waiting (Digits n)) small ∙ rw (longer_is n d few) refl)
     ∙ read_none (at steps waiting (Digits (n * 10 + d)))
 
--- ---- a text of a level, read where an operand is wanted
+-- ---- a text of a level, read where an operand is expected
 
--- the state behind it is that with its steps, up to what an operation of the level or below makes go
+-- the state after it is that with its steps, up to what an operation of the level or below makes go
 pub record Ends (level : ℕ) (text : List ℕ) (spelled : List Step) (steps : List Step) (waiting : List Waiting) : Type 0 where
   pub to : State
   pub run : read_on (at steps waiting Operand) text ≡ Ok to
@@ -143,7 +143,7 @@ pub record Ends (level : ℕ) (text : List ℕ) (spelled : List Step) (steps : L
   pub gives : (least : ℕ) → least ≤ level → (ended to).steps ++ given least (ended to).waiting ≡ (steps ++ spelled) ++ given least waiting
   pub keeps : (least : ℕ) → least ≤ level → kept least (ended to).waiting ≡ kept least waiting
 
--- an operand is all there behind it
+-- an operand is all there after it
 whole_operand : (text : List ℕ) (spelled steps : List Step) (waiting : List Waiting) (to : State) → read_on (at steps waiting Operand) text ≡ Ok to → ended to ≡ at (steps ++ spelled) waiting Operator → Ends operand text spelled steps waiting
 whole_operand text spelled steps waiting to run e = record {
   to = to;

@@ -58,7 +58,7 @@ pub data Writes : List ℕ → ℕ → Type 0 where
   one_more : (ds : List ℕ) (n d : ℕ) → Writes ds n → d < 10 → Writes (ds ++ (48 + d) ∷ []) (n * 10 + d)
 
 -- a text of a level spells steps. An operand is a number of 64 bits, the argument, a comparison in parentheses or a minus sign before an operand, with spaces
--- around it; an operation stands between its operands, the second of which holds together closer than it does, so that operations alike go from the left
+-- around it; an operation is between its operands, the second of which holds together closer than it does, so that operations alike go from the left
 pub data Spells : ℕ → List ℕ → List Step → Type 0 where
   number : (ds : List ℕ) (n : ℕ) → Writes ds n → n < 2 ^ 64 → Spells operand ds (Number n ∷ [])
   argument : Spells operand (letter_x ∷ []) (Argument ∷ [])
@@ -75,7 +75,7 @@ pub data Spells : ℕ → List ℕ → List Step → Type 0 where
 abbrev pub IsNone : List ℕ → Type 0
 IsNone text = (steps : List Step) → ¬ Spells comparison text steps
 
--- digits that stand in a text write a number of more than 64 bits
+-- digits that are in a text write a number of more than 64 bits
 pub record HasWideNumber (text : List ℕ) : Type 0 where
   pub front : List ℕ
   pub digits : List ℕ

@@ -14,7 +14,7 @@ use Rattle.lg_expression.specs.Units.{nodes_of}
 use Rattle.lg_expression.specs.declared.step.Step.{Step}
 use Rattle.lg_expression.specs.Values.{AreWordSteps, behind_steps}
 
--- nodes stand in a text from a place on
+-- nodes are in a text from a place on
 abbrev pub StandAt : LabelledNodes → ℕ → List Node → Type 0
 StandAt l place [] = Unit {0}
 StandAt l place (n ∷ nodes) = (slice_get l.nodes place ≡ Some n) × StandAt l (place + 1) nodes
@@ -46,7 +46,7 @@ pub record Holds (x : ℕ) (stack : List ℕ) (s : State) : Type 0 where
   pub word : x < 2 ^ 64
   pub stands : StandsOn s stack
 
--- the meaning of so many nodes comes from a state to one behind them that holds an argument and a stack
+-- the meaning of n nodes leads from a state to one after them that holds an argument and a stack
 pub record Comes (l : LabelledNodes) (shape : TextShape) (addresses : List ℕ) (s : State) (count : ℕ) (x : ℕ) (stack : List ℕ) : Type 0 where
   pub to : State
   pub run : mean_from l shape addresses s count ≡ run_at to []
@@ -60,7 +60,7 @@ NodesWorkExpressionsOut =
     → Holds x before s → behind_steps x steps before ≡ Some after
     → Comes l shape addresses s (length (nodes_of (length before) steps)) x after
 
--- each byte of a local that takes so many bytes, behind others that take some, is among the locals of a frame that has room for them: by its offset from FP,
+-- each byte of a local that takes this many bytes, after others that take some, is among the locals of a frame that has room for them: by its offset from FP,
 -- which points 16 below the stack pointer at the call
 abbrev pub LocalsLieInTheFrame : Type 0
 LocalsLieInTheFrame =

@@ -25,7 +25,7 @@ shown r = record { steps = r.steps.items; waiting = reverse r.waiting.items; nex
 abbrev pub start : State
 start = record { steps = []; waiting = []; next = Operand }
 
--- an error that comes as a definition says; where memory was wanted nothing is said
+-- an error that comes as a definition says; where memory ran out nothing is said
 abbrev pub Fails : {A : Type 0} → Result A ReadError → ReadError → Type 0
 Fails wanted OutOfMemory = Unit {0}
 Fails wanted NoExpression = wanted ≡ Err NoExpression
@@ -70,7 +70,7 @@ kept least (w ∷ ws) = kept_by (step_before least w) (w ∷ ws) (kept least ws)
 abbrev pub released : ℕ → State → State
 released least s = record s { steps = s.steps ++ given least s.waiting; waiting = kept least s.waiting }
 
--- the first step of them, and what waits behind it
+-- the first step of them, and what waits after it
 abbrev pub first : List Waiting → Option Waiting
 first [] = None
 first (w ∷ ws) = Some w
@@ -123,7 +123,7 @@ abbrev pub closed_from : Next → State → Result State ReadError
 closed_from Operator s = let r = released comparison s in closed_by r.waiting r
 closed_from next s = Err NoExpression
 
--- a minus sign where an operand is wanted negates it
+-- a minus sign where an operand is expected negates it
 abbrev pub sign_by : BinaryOp → State → Result State ReadError
 sign_by op.Sub s = Ok (record s { waiting = waits.Negate ∷ s.waiting })
 sign_by o s = Err NoExpression

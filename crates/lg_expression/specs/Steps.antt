@@ -6,14 +6,14 @@ use Rattle.lg_expression.specs.declared.step.Step.TheVariants.{Number, Argument,
 abbrev pub most_steps : ℕ
 most_steps = 4096
 
--- a step finds the values that it takes, and room for the one that it leaves, where so many values stand on the stack
+-- a step finds the values that it takes, and room for the one that it leaves, where this many values are on the stack
 abbrev pub finds : ℕ → Step → Bool
 finds values (Number n) = nat_lt values 32
 finds values Argument = nat_lt values 32
 finds values Negate = not (nat_lt values 1)
 finds values (Operation op) = not (nat_lt values 2)
 
--- how many stand there behind it
+-- how many are there after it
 abbrev pub behind : ℕ → Step → ℕ
 behind values (Number n) = values + 1
 behind values Argument = values + 1

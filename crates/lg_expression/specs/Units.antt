@@ -51,12 +51,12 @@ v1 = operand.Reg reg.V1
 abbrev pub waiting : ℕ → Operand
 waiting place = operand.Number (0xfffffffffffffe80 + 8 * place)
 
--- the topmost of so many values is put aside
+-- the topmost of n values is put aside
 abbrev pub aside : ℕ → List Node
 aside zero = []
 aside (suc place) = node (Store store.Long RegisterImmediate) (waiting place ∷ fp ∷ v0 ∷ []) ∷ []
 
--- the nodes of a step, where so many values stand on the stack: the topmost one in V0, those below in the frame
+-- the nodes of a step, where this many values are on the stack: the topmost one in V0, those below in the frame
 abbrev pub step_nodes : ℕ → Step → List Node
 step_nodes values (Number n) = aside values ++ (node (Plain plain.Movi) (v0 ∷ operand.Number n ∷ []) ∷ [])
 step_nodes values Argument = aside values ++ (node (Unary Mov) (v0 ∷ v1 ∷ []) ∷ [])
@@ -112,6 +112,6 @@ unit_nodes steps = put_nodes start_with_format (head ++ (nodes_of 0 steps ++ tai
 abbrev pub format : List ℕ
 format = codes "%ld\n\0"
 
--- no data label is bound behind the end of the data part
+-- no data label is bound after the end of the data part
 abbrev pub AreInside : Unit → Type 0
 AreInside u = (x k : ℕ) → IsBound u.nodes x (place.Image k) → k ≤ length u.image

@@ -1,4 +1,4 @@
--- The values of steps on a stack, whose topmost value stands first.
+-- The values of steps on a stack, whose topmost value is first.
 use Rattle.std.specs.Prelude.{ℕ, ◌^◌, ◌<◌, List, [], ◌∷◌, Option, Some, None}
 use Rattle.std.specs.Option.{option_and_then}
 use Rattle.lg_base.specs.Words.{negated}
@@ -17,14 +17,14 @@ abbrev pub operate : BinaryOp → List ℕ → Option (List ℕ)
 operate op (b ∷ a ∷ rest) = option_and_then (λ v. Some (v ∷ rest)) (binary_value op a b)
 operate op stack = None
 
--- the stack behind a step, where it has a value for this argument
+-- the stack after a step, where it has a value for this argument
 abbrev pub behind_step : ℕ → Step → List ℕ → Option (List ℕ)
 behind_step x (Number n) stack = Some (n ∷ stack)
 behind_step x Argument stack = Some (x ∷ stack)
 behind_step x Negate stack = negate stack
 behind_step x (Operation op) stack = operate op stack
 
--- the stack behind steps
+-- the stack after steps
 abbrev pub behind_steps : ℕ → List Step → List ℕ → Option (List ℕ)
 behind_steps x [] stack = Some stack
 behind_steps x (s ∷ steps) stack = option_and_then (behind_steps x steps) (behind_step x s stack)

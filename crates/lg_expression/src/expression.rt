@@ -6,14 +6,14 @@ ghost use Rattle.lg_expression.specs.Steps.{IsExpression, behind, finds, is_whol
 use crate::step::Step;
 use std::marker::Model;
 
-// The most values that stand on the stack.
+// The most values that are on the stack.
 const MOST_VALUES: u32 = 32;
 
 // The most steps.
 const MOST_STEPS: usize = 4_096;
 
-/// An expression, as the steps that work it out. By its type each step finds the values that it takes, at most 32 values stand on the stack
-/// at once, one is left, and there are at most 4,096 steps.
+/// An expression, as the steps that work it out. By its type each step finds the values that it takes, at most 32 values are on the stack at once, one is
+/// left, and there are at most 4,096 steps.
 #[derive(Drop)]
 pub struct Expression {
     steps: Vec<Step>,
@@ -31,7 +31,7 @@ impl Model for Expression {
     ghost invariant = { λ e. IsExpression e.steps.items };
 }
 
-// Whether a step finds the values that it takes, and room for the one that it leaves, where so many values stand on the stack.
+// Returns whether a step finds the values that it takes, and room for the one that it leaves, where this many values are on the stack.
 fn finds(values: u32, step: Step) -> bool
     ensures { result ≡ finds values step }
 {
@@ -42,7 +42,7 @@ fn finds(values: u32, step: Step) -> bool
     }
 }
 
-/// How many values stand on the stack behind a step that finds what it takes.
+/// Returns how many values are on the stack after a step that finds what it takes.
 pub(crate) fn behind(values: u32, step: Step) -> u32
     requires { values ≤ 32 }
     ensures { result ≡ behind values step }
@@ -54,7 +54,7 @@ pub(crate) fn behind(values: u32, step: Step) -> u32
     }
 }
 
-// Whether steps are those of an expression.
+// Returns whether steps are those of an expression.
 fn is_whole(steps: &[Step]) -> bool
     ensures { result ≡ is_whole 0 steps.now }
 {
@@ -69,7 +69,7 @@ fn is_whole(steps: &[Step]) -> bool
 }
 
 impl Expression {
-    /// The expression of these steps, and None where they are not those of one.
+    /// Returns the expression of these steps, or `None` if they are not those of one.
     pub fn of(steps: Vec<Step>) -> Option<Expression>
         ensures some { IfSome result (λ e. e ≡ steps.items) }
         ensures none { IsExpression steps.items → result ≢ None }
@@ -80,7 +80,7 @@ impl Expression {
         Some(Expression { steps })
     }
 
-    /// The steps, in order.
+    /// Returns the steps, in order.
     pub fn steps(&self) -> &[Step]
         ensures value { result.now ≡ self.now }
         ensures steps { IsExpression self.now }

@@ -28,7 +28,7 @@ pub enum ReadError {
     OutOfMemory,
 }
 
-// What stands next: an operand, more digits of a number or what may stand behind it, or what may stand behind an operand.
+// What stands next: an operand, more digits of a number or what may be after it, or what may be after an operand.
 #[derive(Clone, Copy)]
 enum Next {
     Operand,
@@ -62,7 +62,7 @@ fn closeness(operation: BinaryOp) -> u8
     }
 }
 
-// The operation that a byte is the sign of.
+// Returns the operation that a byte is the sign of.
 fn operation_at(byte: u8) -> Option<BinaryOp>
     ensures { result ≡ operation_at byte }
 {
@@ -175,7 +175,7 @@ impl Reader {
         self.wait(Waiting::Open)
     }
 
-    // The step of the latest that waits, where it binds at least as close as this.
+    // Returns the step of the latest that waits, where it binds at least as close as this.
     fn next_step(&self, least: u8) -> Option<Step>
         ensures { result ≡ first_step least (shown self.now).waiting }
     {
@@ -196,7 +196,7 @@ impl Reader {
         Ok(())
     }
 
-    // A parenthesis closes behind an operand.
+    // A parenthesis closes after an operand.
     fn close(&mut self) -> Result<(), ReadError>
         ensures { Goes result (shown self.new) (closed_from self.old.next (shown self.old)) }
     {
@@ -210,7 +210,7 @@ impl Reader {
         }
     }
 
-    // An operator; a minus sign where an operand is wanted negates it.
+    // An operator; a minus sign where an operand is expected negates it.
     fn operator(&mut self, operation: BinaryOp) -> Result<(), ReadError>
         ensures { Goes result (shown self.new) (operator_from self.old.next operation (shown self.old)) }
     {
@@ -288,7 +288,7 @@ impl Reader {
     }
 }
 
-// The steps that a text spells.
+// Returns the steps that a text spells.
 fn steps_of(alloc: Global, text: &[u8]) -> Result<Vec<Step>, ReadError>
     ensures ok { IfOk result (λ steps. steps_read text.now ≡ Ok steps.items) }
     ensures err { IfErr result (Fails (steps_read text.now)) }
@@ -304,10 +304,10 @@ fn steps_of(alloc: Global, text: &[u8]) -> Result<Vec<Step>, ReadError>
     }
 }
 
-/// Reads an expression: numbers in decimal digits, the argument `x`, `+ - * /`, comparisons `< > =`, parentheses, and a minus sign before an
-/// operand. `*` and `/` bind closest, comparisons least, and what binds alike goes from the left; spaces may stand anywhere but in a number.
-/// The expression has the steps that the text spells; `NoExpression` and `NumberTooWide` come only where it spells none, and `TooLarge` where its steps
-/// are too many, or want too many values at once.
+/// Reads an expression: numbers in decimal digits, the argument `x`, `+ - * /`, comparisons `< > =`, parentheses, and a minus sign before an operand. `*` and
+/// `/` bind closest, comparisons least, and what binds alike goes from the left; spaces may be anywhere but in a number. The expression has the steps that
+/// the text spells; `NoExpression` and `NumberTooWide` come only where it spells none, and `TooLarge` where its steps are too many, or want too many values
+/// at once.
 pub fn read(alloc: Global, text: &[u8]) -> Result<Expression, ReadError>
     ensures spelled { IfOk result (λ e. Spells comparison text.now e) }
     ensures none { result ≡ Err error.NoExpression → IsNone text.now }

@@ -46,7 +46,7 @@ fn put(nodes: &mut NodeList, op: Op, operands: &[Operand]) -> Result<(), OutOfMe
     })
 }
 
-// Where the value of a place on the stack waits, of which there are 32.
+// Where the value of a place on the stack waits (32).
 fn waiting(place: u32) -> Operand
     requires { place < 32 }
     ensures { result ≡ waiting place }
@@ -54,7 +54,7 @@ fn waiting(place: u32) -> Operand
     Operand::Number(WAITING + 8 * u64::from(place))
 }
 
-// Makes room for a value on top of so many: the topmost one waits in the frame.
+// Makes room for a value on top of this many: the topmost one waits in the frame.
 fn put_aside(nodes: &mut NodeList, values: u32) -> Result<(), OutOfMemory>
     requires { values < 32 }
     ensures { OnOk result (nodes.new ≡ put_nodes nodes.old (aside values)) }
@@ -69,7 +69,7 @@ fn put_aside(nodes: &mut NodeList, values: u32) -> Result<(), OutOfMemory>
     }
 }
 
-// Appends the nodes of an operation on the two topmost of so many values: the one below waits in the frame.
+// Appends the nodes of an operation on the two topmost of n values: the one below waits in the frame.
 fn put_operation(nodes: &mut NodeList, values: u32, op: BinaryOp) -> Result<(), OutOfMemory>
     requires least { 2 ≤ values }
     requires most { values ≤ 32 }
@@ -84,7 +84,7 @@ fn put_operation(nodes: &mut NodeList, values: u32, op: BinaryOp) -> Result<(), 
     put(nodes, Op::Binary(op, LastOperand::Register), &[V0, R0, V0])
 }
 
-// Appends the nodes of a step, where so many values stand on the stack.
+// Appends the nodes of a step, where this many values are on the stack.
 fn put_step(nodes: &mut NodeList, values: u32, step: Step) -> Result<(), OutOfMemory>
     requires finds { IsTrue (finds values step) }
     requires most { values ≤ 32 }
@@ -202,7 +202,7 @@ fn put_unit(nodes: &mut NodeList, expression: &Expression) -> Result<(), OutOfMe
     Ok(())
 }
 
-/// The unit of an expression: it takes its argument from the second word of the run, as `atoi` reads it, and prints the value and a line feed.
+/// Returns the unit of an expression: it takes its argument from the second word of the run, as `atoi` reads it, and prints the value and a line feed.
 pub fn unit_of(alloc: Global, expression: &Expression) -> Result<Unit, OutOfMemory>
     ensures nodes { IfOk result (λ u. u.nodes ≡ unit_nodes expression.now) }
     ensures image { IfOk result (λ u. u.image ≡ format) }

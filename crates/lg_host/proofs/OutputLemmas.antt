@@ -75,7 +75,7 @@ parts_bytes-more m ps i d lt = ap (parts_bytes m) (take_more ps i d lt) ∙ part
 pub list-split : (xs : List ℕ) (i d : ℕ) → i < length xs → xs ≡ take i xs ++ ((get_or xs i d ∷ []) ++ drop (suc i) xs)
 list-split xs i d lt = sym (take-append-drop i xs) ∙ ap (λ x. take i xs ++ x) (drop-cons xs i d lt)
 
--- ---- a byte so many times
+-- ---- a byte this many times
 pub replicate-split : (n i b : ℕ) → i < n → replicate n b ≡ replicate i b ++ ((b ∷ []) ++ replicate (n - (i + 1)) b)
 replicate-split n i b lt =
     let e : n ≡ i + 1 + (n - (i + 1)) = omega arith in

@@ -35,7 +35,7 @@ printed-by m r b bs args n e = ap (λ x. followed_by (effect_of m x args) (λ e.
 moves : (m : Bytes) (r s : Reading) (b : ℕ) (bs args : List ℕ) → next_of r b ≡ next.Reads s → printed m r (b ∷ bs) args ≡ printed m s bs args
 moves m r s b bs args e = printed-by m r b bs args (next.Reads s) e ∙ nil-map (printed m s bs args)
 
--- a byte that stands for itself
+-- a byte that denotes itself
 puts : (m : Bytes) (r : Reading) (b c : ℕ) (bs args : List ℕ) → next_of r b ≡ next.Puts c → printed m r (b ∷ bs) args ≡ Some (c ∷ []) ++? printed m reading.Plain bs args
 puts m r b c bs args e = printed-by m r b bs args (next.Puts c) e ∙ map-append (c ∷ []) (printed m reading.Plain bs args)
 
@@ -99,8 +99,8 @@ widened-is : (s : Style) (ds : List ℕ) → widened s ds ≡ record { left = s.
 widened-is s [] = refl
 widened-is s (d ∷ ds) = widened-is (with_digit s d) ds
 
--- ---- behind the flags
--- what stands there is neither a flag nor a percent sign
+-- ---- after the flags
+-- what is there is neither a flag nor a percent sign
 abbrev NoFlag : List ℕ → Type 0
 NoFlag [] = ⊥
 NoFlag (b ∷ bs) = (b ≡ 37 → ⊥) × (b ≡ 45 → ⊥) × (b ≡ 48 → ⊥)

@@ -123,7 +123,7 @@ SoFar-more all m w v b a args old mid new lt is ne s h =
       is = s.is ∙ ap (onto s.done) (printed-step m w.reading a b (drop w.used args) lt is ne ∙ k.is) ∙ onto-onto s.done k.bytes (printed_at m v.reading (a + 1) (drop v.used args));
     }
 
--- ---- bytes of which none waits before or after
+-- ---- bytes none of which waits before or after
 pub Prints-flushed : (bytes : Option (List ℕ)) (a b : Output) (new : Option (List ℕ)) (now count : ℕ) (result : Result (Option ℕ) SinkFault) → a.waiting ≡ [] → IsTold bytes a b (Some count) → b.faults ≡ a.faults → IfOk result (λ answer. (answer ≡ Some count) × Appends b.taken new b.waiting) → OnErr result (AppendsPrefix b.taken new b.waiting) → HasCause b.faults now result → Prints {E = SinkFault} bytes a.taken new a.faults now result
 Prints-flushed None a b new now count result e told le ok err cause = let no : ⊥ = cc in absurd no
 Prints-flushed (Some bs) a b new now count (Ok answer) e told le ok err cause = record { ok = (ok.0 ∙ told.0, PassesOn-flushed a b new bs e told.1 ok.1); err = tt; cause = record { later = omega (arith, le, cause.later); kept = cause.kept ∙ le; failed = tt } }

@@ -10,7 +10,7 @@ run_of-suc : (n k : ℕ) (m : Bytes) (a : ℕ) → n ≡ suc k → run_of n m a 
 unfolding run_of
 run_of-suc n k m a e = rw e
 
--- nothing can be read behind the end of memory
+-- nothing can be read after the end of memory
 pub run-end : (m : Bytes) (a : ℕ) → 2 ^ 64 ≤ a → run m a ≡ []
 run-end m a le = run_of-zero (address_end - a) m a (omega arith)
 

@@ -154,7 +154,7 @@ reached a b i h = ⊎_elim (λ lt. inr (omega arith)) (λ ge. inl (omega arith))
 
 -- ---- the bytes of a string
 
--- what stands before the zero byte is what the addresses hold
+-- what is before the zero byte is what the addresses hold
 string-cons : (n : ℕ) (m : Bytes) (a b : ℕ) (bs rest : List ℕ) (t : Bool) (o : Option (List ℕ)) → ((s : List ℕ) → string_in rest ≡ Some s → bytes_from (length s) m (a + 1) ≡ s) → m a ≡ Some b → string_in rest ≡ o → (if t then Some [] else option_map (λ s. b ∷ s) o) ≡ Some bs → bytes_from (length bs) m a ≡ bs
 string-cons n m a b bs rest true o ih is e h = let z : [] ≡ bs = cc in ap (λ x. bytes_from (length x) m a) (sym z) ∙ z
 string-cons n m a b bs rest false None ih is e h = let no : ⊥ = cc in absurd no

@@ -14,24 +14,24 @@ unchanged a = None
 abbrev pub over : Changes → Bytes → Bytes
 over changes bytes a = if is_some (changes a) then changes a else bytes a
 
--- whether an address is one of so many from another on
+-- whether an address is one of n from another on
 abbrev pub in_range : ℕ → ℕ → ℕ → Bool
 in_range from count a = nat_le from a && nat_lt a (from + count)
 
--- so many bytes copied to a place from another
+-- this many bytes copied to a place from another
 abbrev pub copied : Bytes → ℕ → ℕ → ℕ → Changes
 copied bytes to from count a = if in_range to count a then bytes (from + (a - to)) else None
 
--- so many bytes set from a place on
+-- this many bytes set from a place on
 abbrev pub filled : ℕ → ℕ → ℕ → Changes
 filled to byte count a = if in_range to count a then Some byte else None
 
--- whether each of so many addresses can be written
+-- whether each of n addresses can be written
 unfoldable pub can_write : (ℕ → Bool) → ℕ → ℕ → Bool
 can_write room from zero = true
 can_write room from (suc count) = room from && can_write room (from + 1) count
 
--- whether so many bytes from an address on have addresses
+-- whether this many bytes from an address on have addresses
 abbrev pub is_addressed : ℕ → ℕ → Bool
 is_addressed from count = nat_le (from + count) address_end
 

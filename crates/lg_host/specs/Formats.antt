@@ -1,4 +1,4 @@
--- The format of printf, read byte by byte: bytes that stand for themselves, and conversions. The bytes are numbers of
+-- The format of printf, read byte by byte: bytes that denote themselves, and conversions. The bytes are numbers of
 -- ASCII: 37 is `%`, 45 `-`, 48 to 57 the digits, 88 `X`, 99 `c`, 100 `d`, 104 `h`, 105 `i`, 108 `l`, 111 `o`, 112 `p`,
 -- 115 `s`, 117 `u`, 120 `x`.
 use Rattle.std.specs.Prelude.{ℕ, ◌+◌, ◌-◌, ◌*◌, ◌==◌, ◌||◌, Bool, true, false, nat_le, if◌then◌else◌}

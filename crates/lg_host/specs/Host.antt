@@ -56,7 +56,7 @@ heap_end = 0x30400000
 abbrev pub rounded : ℕ → ℕ
 rounded size = max 16 ((size + 15) / 16 * 16)
 
--- whether so many bytes fit the heap
+-- whether this many bytes fit the heap
 abbrev pub fits : ℕ → ℕ → Bool
 fits mark size = nat_le (mark + rounded size) heap_end
 
@@ -117,7 +117,7 @@ pub record Same (m m' : Mem) : Type 0 where
   pub room : m'.room ≡ m.room
   pub mark : m'.mark ≡ m.mark
 
--- what the sink tells of the bytes that it took, and its count of faults, before and after
+-- what the sink says of the bytes that it took, and its count of faults, before and after
 pub record Out : Type 0 where
   pub old : Option (List ℕ)
   pub new : Option (List ℕ)
@@ -163,7 +163,7 @@ MemSays (Exits status) m m' (end.Exit x) = (x ≡ status) × Same m m'
 MemSays Undefined m m' end.Undefined = Same m m'
 MemSays h m m' e = ⊥
 
--- so many bytes were handed out, where they fit
+-- this many bytes were allocated, where they fit
 abbrev pub Reserves : Mem → ℕ → Mem → Option ℕ → Type 0
 Reserves m size m' answer =
     MatchOption answer (Same m m' × (fits m.mark size ≡ false)) (λ at. (at ≡ m.mark) × Same (after m unchanged (m.mark + rounded size)) m'

@@ -39,7 +39,7 @@ pub record IsSound (m : Mem) (args : List ℕ) : Type 0 where
   pub bytes : (a b : ℕ) → m.bytes a ≡ Some b → b < 256
   pub mark : m.mark ≤ heap_end
 
--- the answer is a word, bytes are written only where they may be or in the heap that is handed out, and the heap mark
+-- the answer is a word, bytes are written only where they may be or in the heap that is allocated, and the heap mark
 -- never falls and stays in the heap
 pub record IsAllowed (m : Mem) (value : ℕ) (changes : Changes) (mark : ℕ) (bytes : List ℕ) : Type 0 where
   pub word : value < 2 ^ 64

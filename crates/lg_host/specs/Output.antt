@@ -9,7 +9,7 @@ use Rattle.lg_host.specs.declared.parts.Part.{Part}
 use Rattle.lg_host.specs.declared.parts.Part.TheVariants as part
 use Rattle.lg_host.specs.declared.format_place.FormatPlace.{FormatPlace}
 
--- so many bytes from an address on
+-- this many bytes from an address on
 abbrev pub bytes_from : ℕ → Bytes → ℕ → List ℕ
 bytes_from zero m a = []
 bytes_from (suc n) m a = unwrap_or (m a) 0 ∷ bytes_from n m (a + 1)
@@ -23,7 +23,7 @@ abbrev pub parts_bytes : Bytes → List Part → List ℕ
 parts_bytes m [] = []
 parts_bytes m (p ∷ ps) = part_bytes m p ++ parts_bytes m ps
 
--- what the sink tells of the bytes that it took, the bytes that wait in the buffer, and the sink's count of faults
+-- what the sink says of the bytes that it took, the bytes that wait in the buffer, and the sink's count of faults
 pub record Output : Type 0 where
   pub taken : Option (List ℕ)
   pub waiting : List ℕ
@@ -32,7 +32,7 @@ pub record Output : Type 0 where
 abbrev pub output : Option (List ℕ) → List ℕ → ℕ → Output
 output taken waiting faults = record { taken = taken; waiting = waiting; faults = faults }
 
--- the bytes went behind those that wait, of which the first ones went to the sink
+-- the bytes went after those that wait, the first ones of which went to the sink
 abbrev pub PassesOn : Output → Output → List ℕ → Type 0
 PassesOn old new bytes = (sent : List ℕ) × Appends old.taken new.taken sent × (old.waiting ++ bytes ≡ sent ++ new.waiting)
 
@@ -53,7 +53,7 @@ pub record Told {E : Type 0} (bytes : Option (List ℕ)) (old new : Output) (res
   pub err : OnErr result (IfSome bytes (λ all. AppendsPrefix old.taken new.taken (old.waiting ++ all)))
   pub cause : HasCause old.faults new.faults result
 
--- the same of bytes of which none waits before or after
+-- the same of bytes none of which waits before or after
 abbrev pub IsWritten : Option (List ℕ) → Option (List ℕ) → Option (List ℕ) → Option ℕ → Type 0
 IsWritten None old new answer = answer ≡ None
 IsWritten (Some bytes) old new answer = (answer ≡ Some (length bytes % 2 ^ 64)) × Appends old new bytes

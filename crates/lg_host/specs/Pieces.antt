@@ -78,7 +78,7 @@ plain_kind LowerP = kind.Pointer
 
 -- ---- pieces
 pub data Piece : Type 0 where
-  -- a byte that stands for itself
+  -- a byte that denotes itself
   Itself : ℕ → Piece
   -- two percent signs, which print one
   Percent : Piece

@@ -24,7 +24,7 @@ padded style sign body =
     else if style.zero then sign ++ (replicate gap 48 ++ body)
     else replicate gap 32 ++ (sign ++ body)
 
--- one more than the largest number of so many bytes
+-- one more than the largest number of this many bytes
 abbrev pub span : Size → ℕ
 span size.Byte = 2 ^ 8
 span size.Short = 2 ^ 16

@@ -9,12 +9,12 @@ Bytes = ℕ → Option ℕ
 abbrev pub address_end : ℕ
 address_end = 2 ^ 64
 
--- a byte before others, of which none counts where the byte can't be read
+-- a byte before others, none of which counts where the byte can't be read
 abbrev pub before : Option ℕ → List ℕ → List ℕ
 before None bytes = []
 before (Some byte) bytes = byte ∷ bytes
 
--- at most so many bytes from an address on, up to the first that can't be read
+-- at most this many bytes from an address on, up to the first that can't be read
 unfoldable pub run_of : ℕ → Bytes → ℕ → List ℕ
 run_of zero m a = []
 run_of (suc n) m a = before (m a) (run_of n m (a + 1))

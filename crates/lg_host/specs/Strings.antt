@@ -30,7 +30,7 @@ abbrev pub number_in : Bool → ℕ → List ℕ → Option ℕ
 number_in negative n [] = None
 number_in negative n (b ∷ bs) = if is_digit b then number_in negative (n * 10 + (b - 48)) bs else int_word negative n
 
--- `-` or `+`, if one stands there, and a number
+-- `-` or `+`, if one is there, and a number
 abbrev pub signed_in : List ℕ → Option ℕ
 signed_in [] = None
 signed_in (b ∷ bs) = if b == 45 then number_in true 0 bs else if b == 43 then number_in false 0 bs else number_in false 0 (b ∷ bs)

@@ -8,7 +8,7 @@ use crate::heap_mark::HeapMark;
 use crate::host_end::HostEnd;
 use lg_base::Space;
 
-// Hands out so many bytes of the heap, where they fit.
+// Allocates this many bytes of the heap, where they fit.
 fn reserve<S: Space>(size: u64, mem: &mut S, heap: &mut HeapMark) -> Option<u64>
     ensures says { Reserves
         (memory (S.byte_of mem.old) (S.room mem.old) heap.old) size
@@ -53,7 +53,7 @@ pub fn calloc<S: Space>(count: u64, size: u64, mem: &mut S, heap: &mut HeapMark)
     }
 }
 
-// Hands out zero bytes.
+// Allocates zero bytes.
 fn zeroed<S: Space>(size: u64, mem: &mut S, heap: &mut HeapMark) -> HostEnd
     ensures { MemSays (calloc heap.old size)
         (memory (S.byte_of mem.old) (S.room mem.old) heap.old)

@@ -6,14 +6,14 @@ ghost use Rattle.lg_host.specs.Blocks.{over, copied, filled, can_write, is_addre
 
 use lg_base::Space;
 
-/// Whether so many bytes from an address on have addresses.
+/// Returns whether this many bytes from an address on have addresses.
 pub fn is_addressed(from: u64, count: u64) -> bool
     ensures { result ≡ is_addressed from count }
 {
     count == 0 || count - 1 <= u64::MAX - from
 }
 
-/// Whether two ranges of `count` bytes have a byte in common.
+/// Returns whether two ranges of `count` bytes have a byte in common.
 pub fn overlaps(to: u64, from: u64, count: u64) -> bool
     ensures { result ≡ overlaps to from count }
 {
@@ -24,7 +24,7 @@ pub fn overlaps(to: u64, from: u64, count: u64) -> bool
     }
 }
 
-/// Whether all `count` bytes from an address on can be read. The range ends by 2^64.
+/// Returns whether all `count` bytes from an address on can be read. The range ends by 2^64.
 pub fn can_get_all<S: Space>(mem: &S, from: u64, count: u64) -> bool
     requires { from + count ≤ 2 ^ 64 }
     ensures { result ≡ mapped (S.byte_of mem.now) from count }
@@ -37,7 +37,7 @@ pub fn can_get_all<S: Space>(mem: &S, from: u64, count: u64) -> bool
     true
 }
 
-/// Whether all `count` bytes from an address on can be written. The range ends by 2^64.
+/// Returns whether all `count` bytes from an address on can be written. The range ends by 2^64.
 pub fn can_put_all<S: Space>(mem: &S, from: u64, count: u64) -> bool
     requires { from + count ≤ 2 ^ 64 }
     ensures { result ≡ can_write (S.room mem.now) from count }

@@ -35,7 +35,7 @@ impl Buffer {
         }
     }
 
-    // Whether no further byte can wait.
+    // Returns whether no further byte can wait.
     fn is_full(&self) -> bool
         ensures value { result ≡ (length self.now == 64) }
         ensures within { length self.now ≤ 64 }

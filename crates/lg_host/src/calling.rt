@@ -14,7 +14,7 @@ use crate::strings::{atoi, compare, string_end};
 use lg_base::{HostName, Space};
 use lg_io::Sink;
 
-// How many arguments are named.
+// Returns how many arguments are named.
 fn named(name: HostName) -> usize
     ensures { result ≡ named name }
 {
@@ -43,7 +43,7 @@ fn answered(answer: Option<u64>) -> HostEnd
     }
 }
 
-// The length of a string.
+// Returns the length of a string.
 fn strlen<S: Space>(mem: &S, from: u64) -> Option<u64>
     ensures { result ≡ option_map length (string_in (run (S.byte_of mem.now) from)) }
 {
@@ -95,9 +95,9 @@ fn act<S: Space, O: Sink>(
     }
 }
 
-/// Calls a host function with its arguments, which are words. `variadic` says whether arguments behind the named ones may
-/// stand there, as `printf` needs it. A call with fewer arguments than are named is undefined, and further ones are not
-/// read. What each function answers, changes and writes stands in `table` of specs/Host.antt. Each output goes to the sink
+/// Calls a host function with its arguments, which are words. `variadic` says whether arguments after the named ones may
+/// are there, as `printf` needs it. A call with fewer arguments than are named is undefined, and further ones are not
+/// read. What each function answers, changes and writes is in `table` of specs/Host.antt. Each output goes to the sink
 /// before the call ends. Where a write fails a part of it may have been written, from the first byte on.
 pub fn call<S: Space, O: Sink>(
     name: HostName,

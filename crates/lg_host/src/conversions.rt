@@ -63,7 +63,7 @@ fn put_padded<'a, S: Space, O: Sink>(
     }
 }
 
-// Passes on a number in digits, behind a sign.
+// Passes on a number in digits, after a sign.
 fn put_number<S: Space, O: Sink>(
     mem: &S,
     style: Style,
@@ -91,7 +91,7 @@ fn put_number<S: Space, O: Sink>(
     )
 }
 
-// The low bytes of a word.
+// Returns the low bytes of a word.
 fn low(size: Size, word: u64) -> u64
     ensures { result ≡ word % span size }
 {
@@ -103,7 +103,7 @@ fn low(size: Size, word: u64) -> u64
     }
 }
 
-// Whether the low bytes of a word are a number below 0.
+// Returns whether the low bytes of a word are a number below 0.
 fn is_negative(size: Size, word: u64) -> bool
     ensures { result ≡ is_negative size word }
 {
@@ -115,7 +115,7 @@ fn is_negative(size: Size, word: u64) -> bool
     }
 }
 
-// The number in the low bytes of a word, without its sign.
+// Returns the number in the low bytes of a word, without its sign.
 fn magnitude(size: Size, word: u64) -> u64
     ensures { result ≡ magnitude_of size word }
 {

@@ -7,7 +7,7 @@ use lg_io::Radix;
 pub struct Style {
     /// The flag `-`: spaces come on the right.
     pub left: bool,
-    /// The flag `0`: zeros come behind the sign in place of spaces on the left.
+    /// The flag `0`: zeros come after the sign in place of spaces on the left.
     pub zero: bool,
     /// The least number of bytes, at most 4,095.
     pub width: u32,
@@ -46,17 +46,17 @@ pub enum Kind {
 pub enum Reading {
     /// Outside conversions.
     Plain,
-    /// Behind the percent sign.
+    /// After the percent sign.
     Start,
-    /// Behind a flag.
+    /// After a flag.
     Flags(Style),
-    /// Behind a digit of the width.
+    /// After a digit of the width.
     Width(Style),
-    /// Behind one `h`.
+    /// After one `h`.
     Half(Style),
-    /// Behind one `l`.
+    /// After one `l`.
     Longer(Style),
-    /// Behind `hh` or `ll`.
+    /// After `hh` or `ll`.
     Sized(Style, Size),
 }
 
@@ -65,7 +65,7 @@ pub enum Reading {
 pub enum Next {
     /// It only moves the reading on.
     Reads(Reading),
-    /// It stands for itself.
+    /// It denotes itself.
     Puts(u8),
     /// It ends a conversion.
     Converts(Style, Kind),

@@ -1,10 +1,10 @@
-// How much of the heap is handed out.
+// How much of the heap is allocated.
 
 ghost use Rattle.std.specs.Prelude.{◌≡◌, ℕ, ◌≤◌};
 
 use std::marker::Model;
 
-/// The first address of the heap that is not handed out, from 0x30000000 to 0x30400000.
+/// The first address of the heap that is not allocated, from 0x30000000 to 0x30400000.
 #[derive(Drop)]
 pub struct HeapMark {
     address: u64,
@@ -21,7 +21,7 @@ impl Model for HeapMark {
 }
 
 impl HeapMark {
-    /// Nothing is handed out.
+    /// Nothing is allocated.
     pub fn new() -> HeapMark
         ensures { result ≡ 0x30000000 }
     {
@@ -30,7 +30,7 @@ impl HeapMark {
         }
     }
 
-    /// The first address that is not handed out.
+    /// Returns the first address that is not allocated.
     pub fn mark(&self) -> u64
         ensures value { result ≡ self.now }
         ensures low { 0x30000000 ≤ result }
@@ -39,7 +39,7 @@ impl HeapMark {
         self.address
     }
 
-    // Hands out the heap up to an address.
+    // Allocates the heap up to an address.
     pub(crate) fn set(&mut self, address: u64)
         requires low { 0x30000000 ≤ address }
         requires high { address ≤ 0x30400000 }

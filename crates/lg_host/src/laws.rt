@@ -10,7 +10,7 @@ pub fn larger_memory_changes_nothing()
     ensures { IsKept }
 {}
 
-/// An answer is a word, a call writes bytes only where bytes may be written or in the heap that it hands out, and the heap
+/// An answer is a word, a call writes bytes only where bytes may be written or in the heap that it allocates, and the heap
 /// mark never falls and stays in the heap.
 pub fn answers_are_allowed()
     ensures { AnswersAllowed }
@@ -26,7 +26,7 @@ pub fn formats_are_spelled_by_pieces()
     ensures { IsSpelledByPieces }
 {}
 
-/// `atoi` reads the value of the digits behind white space and a sign.
+/// `atoi` reads the value of the digits after white space and a sign.
 pub fn atoi_reads_its_digits()
     ensures { ReadsItsDigits }
 {}

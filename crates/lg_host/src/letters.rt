@@ -31,7 +31,7 @@ fn without_zeros(style: Style, kind: Kind) -> Next
     }
 }
 
-// The letter behind a conversion without a length.
+// Returns the letter after a conversion without a length.
 fn any_letter(style: Style, byte: u8) -> Next
     ensures { result ≡ any_letter style byte }
 {
@@ -54,7 +54,7 @@ fn at_length(style: Style, byte: u8) -> Next
     }
 }
 
-// A digit of the width, or what comes behind it.
+// A digit of the width, or what comes after it.
 fn at_width(style: Style, byte: u8) -> Next
     ensures { result ≡ at_width style byte }
 {
@@ -74,7 +74,7 @@ fn at_width(style: Style, byte: u8) -> Next
     }
 }
 
-// A flag, or what comes behind the flags.
+// A flag, or what comes after the flags.
 fn at_flags(style: Style, byte: u8) -> Next
     ensures { result ≡ at_flags style byte }
 {
@@ -93,7 +93,7 @@ fn at_flags(style: Style, byte: u8) -> Next
     }
 }
 
-/// What a byte of a format means, by what came before it.
+/// Returns what a byte of a format means, by what came before it.
 pub fn next(reading: Reading, byte: u8) -> Next
     ensures { result ≡ next_of reading byte }
 {
@@ -119,7 +119,7 @@ fn plain(byte: u8) -> Next
     }
 }
 
-// A byte behind the percent sign.
+// A byte after the percent sign.
 fn start(byte: u8) -> Next
     ensures { result ≡ next_of Reading.Start byte }
 {
@@ -137,7 +137,7 @@ fn start(byte: u8) -> Next
     }
 }
 
-// A byte behind one `h`.
+// A byte after one `h`.
 fn half(style: Style, byte: u8) -> Next
     ensures { result ≡ next_of (Reading.Half style) byte }
 {
@@ -148,7 +148,7 @@ fn half(style: Style, byte: u8) -> Next
     }
 }
 
-// A byte behind one `l`.
+// A byte after one `l`.
 fn longer(style: Style, byte: u8) -> Next
     ensures { result ≡ next_of (Reading.Longer style) byte }
 {
@@ -159,7 +159,7 @@ fn longer(style: Style, byte: u8) -> Next
     }
 }
 
-/// Whether a format may end there.
+/// Returns whether a format may end there.
 pub fn is_plain(reading: Reading) -> bool
     ensures { result ≡ is_plain reading }
 {

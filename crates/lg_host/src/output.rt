@@ -16,7 +16,7 @@ use crate::strings::string_end;
 use lg_base::Space;
 use lg_io::{Sink, write_all};
 
-// The number of bytes as an int.
+// Returns the number of bytes as an int.
 fn int_answer(count: u64) -> u64
     ensures { result ≡ int_answer count }
 {
@@ -28,9 +28,8 @@ fn int_answer(count: u64) -> u64
     }
 }
 
-/// Writes what a format prints of the arguments behind it. Answers the number of bytes, as an int; `WriteFault` where the sink failed, and then
-/// a part may be written; Undefined, with nothing written, where the format is wrong, asks for an argument that is not there, or it or a string
-/// cannot be read to its end.
+/// Writes what a format prints of the arguments after it. Answers the number of bytes, as an int; `WriteFault` where the sink failed, and then a part may be
+/// written; Undefined, with nothing written, where the format is wrong, asks for an argument that is not there, or it or a string cannot be read to its end.
 pub fn printf<S: Space, O: Sink>(mem: &S, format: u64, args: &[u64], out: &mut O) -> HostEnd
     ensures says { TextSays (printed_at (S.byte_of mem.now) Reading.Plain format args.now)
         (outcome (O.taken out.old) (O.taken out.new) (O.faults out.old) (O.faults out.new)) result }

@@ -13,13 +13,13 @@ use lg_io::{Sink, SinkFault};
 pub enum Part<'a> {
     /// These bytes.
     Bytes(&'a [u8]),
-    /// A byte so many times.
+    /// A byte this many times.
     Fill(u8, u32),
-    /// What stands in memory from an address to before another.
+    /// What is in memory from an address to before another.
     Text(u64, u64),
 }
 
-// Passes on a byte so many times.
+// Passes on a byte this many times.
 fn put_fill<O: Sink>(
     byte: u8,
     count: u32,

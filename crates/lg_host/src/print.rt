@@ -40,7 +40,7 @@ fn step<S: Space, O: Sink>(
     }
 }
 
-// Passes on a byte that stands for itself.
+// Passes on a byte that denotes itself.
 fn put_plain<O: Sink>(
     place: FormatPlace,
     byte: u8,
@@ -90,7 +90,7 @@ fn put_converted<S: Space, O: Sink>(
     }
 }
 
-// Passes on what a format prints, or tells that it is undefined; then some of it may have been passed on.
+// Passes on what a format prints, or says that it is undefined; then some of it may have been passed on.
 fn put_format<S: Space, O: Sink>(
     mem: &S,
     from: u64,
@@ -126,7 +126,7 @@ fn put_format<S: Space, O: Sink>(
     Ok(None)
 }
 
-/// Writes what a format prints, or tells that it is undefined; then some of it may have been written.
+/// Writes what a format prints, or says that it is undefined; then some of it may have been written.
 pub fn print<S: Space, O: Sink>(
     mem: &S,
     from: u64,
@@ -144,7 +144,7 @@ pub fn print<S: Space, O: Sink>(
     }
 }
 
-// Writes the bytes that wait, behind which none comes.
+// Writes the bytes that wait, after which none comes.
 fn flush_all<O: Sink>(
     count: u64,
     buffer: &mut Buffer,

@@ -7,7 +7,7 @@ ghost use Rattle.lg_host.specs.Strings.{string_in, compared, number_in, signed_i
 
 use lg_base::Space;
 
-/// The address of the zero byte that ends the string at an address; None where a byte before it can't be read.
+/// Returns the address of the zero byte that ends the string at an address, or `None` if a byte before it can't be read.
 pub fn string_end<S: Space>(mem: &S, from: u64) -> Option<u64>
     ensures value { result ≡ option_map (λ s. from + length s) (string_in (run (S.byte_of mem.now) from)) }
     ensures behind { IfSome result (λ end. from ≤ end) }
@@ -47,7 +47,7 @@ pub fn compare<S: Space>(mem: &S, first: u64, second: u64) -> Option<u64>
     None
 }
 
-/// The number that a string begins with, behind white space; None where a byte up to its end can't be read, or where it is no int.
+/// Returns the number that a string begins with, after white space, or `None` if a byte up to its end can't be read, or where it is no int.
 pub fn atoi<S: Space>(mem: &S, from: u64) -> Option<u64>
     ensures { result ≡ atoi_in (run (S.byte_of mem.now) from) }
 {
@@ -62,14 +62,14 @@ pub fn atoi<S: Space>(mem: &S, from: u64) -> Option<u64>
     None
 }
 
-// Whether a byte is one of the six of white space.
+// Returns whether a byte is one of the six of white space.
 fn is_space(byte: u8) -> bool
     ensures { result ≡ is_space byte }
 {
     byte == b' ' || (9 <= byte && byte <= 13)
 }
 
-// The number from its sign or first digit on.
+// Returns the number from its sign or first digit on.
 fn signed<S: Space>(mem: &S, at: u64, byte: u8) -> Option<u64>
     requires here { S.byte_of mem.now at ≡ Some byte }
     ensures { result ≡ signed_in (run (S.byte_of mem.now) at) }
@@ -83,7 +83,7 @@ fn signed<S: Space>(mem: &S, at: u64, byte: u8) -> Option<u64>
     }
 }
 
-// The number of the digits behind an address, of which there is none behind the largest.
+// Returns the number of the digits after an address, with none after the largest.
 fn number_behind<S: Space>(mem: &S, at: u64, negative: bool) -> Option<u64>
     ensures { result ≡ number_in negative 0 (run (S.byte_of mem.now) (at + 1)) }
 {
@@ -93,7 +93,7 @@ fn number_behind<S: Space>(mem: &S, at: u64, negative: bool) -> Option<u64>
     }
 }
 
-// The number of the digits from here on.
+// Returns the number of the digits from here on.
 fn number<S: Space>(mem: &S, from: u64, negative: bool) -> Option<u64>
     ensures { result ≡ number_in negative 0 (run (S.byte_of mem.now) from) }
 {

@@ -3,7 +3,7 @@ use Rattle.std.proofs.Common.{◌⊎◌, ℕ, ◌-◌, ◌^◌, ◌<◌, ◌≤�
 use Rattle.std.proofs.lemmas.Bool.{cases_lt}
 use Rattle.lg_io.specs.Counts.{Rose}
 
--- it is greater than before, or stands at its last number
+-- it is greater than before, or is at its last number
 pub Rose-cases : (before now : ℕ) → Rose before now → (before < now) ⊎ (2 ^ 64 - 1 ≤ now)
 Rose-cases before now rose = ⊎_elim (λ (h : before < now). inl h) (λ (h : now ≤ before). inr (omega (arith, rose))) (cases_lt before now)
 

@@ -17,7 +17,7 @@ pub joined-append : (ps qs : List (Bor (List ℕ))) → joined (ps ++ qs) ≡ jo
 joined-append [] qs = refl
 joined-append (p ∷ ps) qs = ap (λ x. p.now ++ x) (joined-append ps qs) ∙ sym (append_assoc p.now (joined ps) (joined qs))
 
--- the pieces before a place, the one there, and those behind it
+-- the pieces before a place, the one there, and those after it
 pub joined-split : (ps : List (Bor (List ℕ))) (i : ℕ) (d : Bor (List ℕ)) → i < length ps → joined ps ≡ joined (take i ps) ++ ((get_or ps i d).now ++ joined (drop (suc i) ps))
 joined-split ps i d lt = ap joined (sym (take-append-drop i ps)) ∙ joined-append (take i ps) (drop i ps) ∙ ap (λ x. joined (take i ps) ++ joined x) (drop-cons ps i d lt)
 

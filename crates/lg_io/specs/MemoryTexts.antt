@@ -52,6 +52,6 @@ after_read texts into =
       calls = counted texts.calls (fails_next texts.calls);
     }
 
--- the slice, of which the first bytes are those that are read
+-- the slice, whose first bytes are those that are read
 abbrev pub read_into : TextsState → List ℕ → List ℕ
 read_into texts into = take (read_count texts into) texts.left ++ drop (read_count texts into) into

@@ -11,12 +11,12 @@ abbrev pub text_under : NamedTexts → List ℕ → Option (List ℕ)
 text_under [] name = None
 text_under (named ∷ texts) name = if bytes_eq named.0 name then Some named.1 else text_under texts name
 
--- where the texts are told, one of that name is among them, and it is what is left to be read
+-- where the texts are shown, one of that name is among them, and it is what is left to be read
 abbrev pub Selects : Option NamedTexts → Option (List ℕ) → List ℕ → Type 0
 Selects None left name = ⊤
 Selects (Some texts) left name = (left ≡ text_under texts name) × IsSome left
 
--- the texts are told, and one of that name is among them
+-- the texts are shown, and one of that name is among them
 abbrev pub IsHeld : Option NamedTexts → List ℕ → Type 0
 IsHeld None name = ⊥
 IsHeld (Some texts) name = IsSome (text_under texts name)

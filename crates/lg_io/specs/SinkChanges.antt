@@ -3,7 +3,7 @@ use Rattle.std.specs.Prelude.{ℕ, List, Option, Result}
 use Rattle.std.specs.Io.KnownBytes.{Appends}
 use Rattle.lg_io.specs.Wrote.{AppendsPrefix, Wrote}
 
--- the bytes that a sink has taken, where it tells them, and its count of faults, before and after
+-- the bytes that a sink has taken, where it shows them, and its count of faults, before and after
 pub record SinkChange : Type 0 where
   pub taken : Option (List ℕ)
   pub taken' : Option (List ℕ)

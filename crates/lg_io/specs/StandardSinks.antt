@@ -5,7 +5,7 @@ use Rattle.lg_io.specs.declared.reading.Reading.{Reading}
 use Rattle.lg_io.specs.declared.standard.Selected.{Selected}
 use Rattle.lg_io.specs.declared.standard.Selected.TheVariants as selected
 
--- the bytes that the writer holds, where it tells them, and how often a write failed
+-- the bytes that the writer holds, where it shows them, and how often a write failed
 pub record WriterState : Type 0 where
   pub held : Option (List ℕ)
   pub faults : ℕ
@@ -16,7 +16,7 @@ pub data Source : Type 0 where
   FileText : Source
   InputText : Source
 
--- what is left to be read of the selected text, where its reader tells it, where the text comes from, how far it is read, and how often a call failed
+-- what is left to be read of the selected text, where its reader shows it, where the text comes from, how far it is read, and how often a call failed
 pub record ReaderState : Type 0 where
   pub left : Option (List ℕ)
   pub source : Source
@@ -33,7 +33,7 @@ source_of selected.Nothing = Source.NoText
 source_of (selected.File f) = Source.FileText
 source_of (selected.Input i) = Source.InputText
 
--- what is seen of texts, by what a file and the standard input tell that is left of them
+-- what is seen of texts, by what a file and the standard input shows that is left of them
 abbrev pub seen_texts : {F I : Type 0} → (F → Option (List ℕ)) → (I → Option (List ℕ)) → Selected F I → Reading → ℕ → ReaderState
 seen_texts file input selected reading faults =
     record { left = left_of file input selected; source = source_of selected; reading = reading; faults = faults }

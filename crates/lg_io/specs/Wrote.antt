@@ -1,4 +1,4 @@
--- What a write of bytes leaves in a sink. Where the sink does not tell its bytes, nothing is said of them.
+-- What a write of bytes leaves in a sink. Where the sink does not show its bytes, nothing is said of them.
 use Rattle.std.specs.Prelude.{ℕ, ◌<◌, List, [], ◌∷◌, ◌++◌, length, take, Option, Result, OnOk, OnErr}
 use Rattle.std.specs.Borrow.{Bor}
 use Rattle.std.specs.Io.KnownBytes.{Appends}

@@ -7,7 +7,7 @@ use lg_base::OutOfMemory;
 use std::alloc::Global;
 use std::marker::Model;
 
-/// Counts calls and faults, and tells the calls that are to fail by their numbers, from 1.
+/// Counts calls and faults, and shows the calls that are to fail by their numbers, from 1.
 #[derive(Drop)]
 pub struct FailingCalls {
     fail_at: Vec<u64>,
@@ -35,7 +35,7 @@ impl FailingCalls {
         })
     }
 
-    /// Whether the next call is to fail.
+    /// Returns whether the next call is to fail.
     pub fn fails_next(&self) -> bool
         ensures { result ≡ fails_next self.now }
     {
@@ -54,7 +54,7 @@ impl FailingCalls {
         }
     }
 
-    /// How many calls failed.
+    /// Returns how many calls failed.
     pub fn faults(&self) -> u64
         ensures { result ≡ self.now.faults }
     {

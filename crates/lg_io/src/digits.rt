@@ -42,7 +42,7 @@ impl Radix {
     }
 }
 
-// The character of a digit.
+// Returns the character of a digit.
 fn glyph(digit: u8, capitals: bool) -> u8
     requires { digit < 16 }
     ensures { result ≡ digit_glyph capitals digit }
@@ -95,7 +95,7 @@ impl Model for Digits {
 }
 
 impl Digits {
-    /// The digits of a number: 0 is one digit, and the longest number has 22.
+    /// Returns the digits of a number: 0 is one digit, and the longest number has 22.
     pub fn of(number: u64, radix: Radix) -> Digits
         ensures { result ≡ digits_in radix number }
     {
@@ -104,7 +104,7 @@ impl Digits {
         Digits { bytes, start }
     }
 
-    /// The digits as characters of ASCII.
+    /// Returns the digits as characters of ASCII.
     pub fn as_slice(&self) -> &[u8]
         ensures value { result.now ≡ self.now }
         ensures short { length result.now ≤ 22 }

@@ -11,7 +11,7 @@ use lg_base::OutOfMemory;
 use std::alloc::Global;
 use std::marker::Model;
 
-/// Takes bytes up to a room, and fails at the calls that it is told to fail at.
+/// Takes bytes up to a room, and fails at the calls that it is set to fail at.
 #[derive(Drop)]
 pub struct MemorySink {
     bytes: Vec<u8>,
@@ -31,7 +31,7 @@ impl Model for MemorySink {
 }
 
 impl MemorySink {
-    /// A sink that has taken no bytes and has room for so many. The k-th write, from 1, fails where k is in the list, or where no
+    /// Returns a sink that has taken no bytes and has room for this many. The k-th write, from 1, fails where k is in the list, or where no
     /// room is left. It takes its memory here.
     pub fn new(alloc: Global, room: usize, fail_at: &[u64]) -> Result<MemorySink, OutOfMemory>
         ensures { IfOk result (λ sink. sink ≡ record { taken = []; room = room; calls = record { fail_at = fail_at.now; made = 0; faults = 0 } }) }
@@ -43,14 +43,14 @@ impl MemorySink {
         })
     }
 
-    /// The bytes taken so far.
+    /// Returns the bytes taken so far.
     pub fn bytes(&self) -> &[u8]
         ensures { result.now ≡ self.now.taken }
     {
         self.bytes.as_slice()
     }
 
-    /// How many writes failed.
+    /// Returns how many writes failed.
     pub fn faults(&self) -> u64
         ensures { result ≡ self.now.calls.faults }
     {

@@ -16,7 +16,7 @@ use lg_base::OutOfMemory;
 use std::alloc::Global;
 use std::marker::Model;
 
-/// Texts by their names, which fail at the calls that they are told to fail at.
+/// Texts by their names, which fail at the calls that they are set to fail at.
 #[derive(Drop)]
 pub struct MemoryTexts {
     alloc: Global,
@@ -45,7 +45,7 @@ impl Model for MemoryTexts {
     ghost invariant = { λ texts. ForSome texts.selected (λ place. place < vec_len texts.texts) };
 }
 
-// The place of the first text of a name.
+// Returns the place of the first text of a name.
 fn place_of(texts: &[NamedText], name: &str) -> Option<usize>
     ensures { MatchOption result (text_under texts.now name.now ≡ None) (IsPlaceOf texts.now name.now) }
 {
@@ -96,7 +96,7 @@ impl MemoryTexts {
         Ok(())
     }
 
-    /// How many calls failed.
+    /// Returns how many calls failed.
     pub fn faults(&self) -> u64
         ensures { result ≡ self.now.calls.faults }
     {

@@ -7,7 +7,7 @@ use lg_base::OutOfMemory;
 use std::alloc::Global;
 use std::marker::Model;
 
-/// A name, and the text that it stands for.
+/// A name, and the text that it corresponds to.
 #[derive(Drop)]
 pub struct NamedText {
     name: String,
@@ -33,14 +33,14 @@ impl NamedText {
         })
     }
 
-    /// Whether this is its name.
+    /// Returns whether this is its name.
     pub fn has_name(&self, name: &str) -> bool
         ensures { result ≡ bytes_eq self.now.0 name.now }
     {
         self.name.as_str() == name
     }
 
-    /// The text.
+    /// Returns the text.
     pub fn text(&self) -> &[u8]
         ensures { result.now ≡ self.now.1 }
     {

@@ -17,7 +17,7 @@ pub enum SinkFault {
 
 /// Takes bytes one piece after another.
 pub trait Sink {
-    /// The bytes taken so far, where the sink tells them.
+    /// The bytes taken so far, where the sink shows them.
     ghost taken: { Self → Option (List ℕ) };
 
     /// How often a write failed.

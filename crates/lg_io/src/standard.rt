@@ -1,4 +1,4 @@
-// Texts and sinks over std's files, input and writers: the edge to the outside, whose bytes no contract tells.
+// Texts and sinks over std's files, input and writers: the edge to the outside, whose bytes no contract shows.
 
 ghost use Rattle.std.specs.Prelude.{◌≡◌, ◌<◌, ◌≤◌, ℕ, List, [], length, true, false, codes, Option, Some, None, Ok, IfOk, OnOk, OnErr, is_ok, if◌then◌else◌};
 ghost use Rattle.std.specs.Str.{bytes_eq};
@@ -17,7 +17,7 @@ use std::io::{Read, Write};
 use std::marker::Model;
 use std::rt::Files;
 
-/// A sink over a writer. It tells no bytes, and a contract sees its count of faults.
+/// A sink over a writer. It shows no bytes, and a contract sees its count of faults.
 #[derive(Drop)]
 pub struct StdSink<W: Write + Drop> {
     writer: W,
@@ -33,14 +33,14 @@ impl<W: Write + Drop> Model for StdSink<W> {
 }
 
 impl<W: Write + Drop> StdSink<W> {
-    /// A sink that passes each piece to the writer.
+    /// Returns a sink that passes each piece to the writer.
     pub fn new(writer: W) -> StdSink<W>
         ensures { result ≡ record { held = W.contents writer; faults = 0 } }
     {
         StdSink { writer, faults: 0 }
     }
 
-    /// How many writes failed.
+    /// Returns how many writes failed.
     pub fn faults(&self) -> u64
         ensures { result ≡ self.now.faults }
     {
@@ -79,7 +79,7 @@ enum Selected<F: Drop, I: Drop> {
     Input(I),
 }
 
-/// Texts from files, with the standard input under the name `-`. It tells no bytes, and a contract sees its count of faults.
+/// Texts from files, with the standard input under the name `-`. It shows no bytes, and a contract sees its count of faults.
 #[derive(Drop)]
 pub struct StdTexts<'a, R: Files + Input> {
     rt: &'a R,
@@ -109,7 +109,7 @@ impl<'a, R: Files + Input> StdTexts<'a, R> {
         }
     }
 
-    /// How many calls failed.
+    /// Returns how many calls failed.
     pub fn faults(&self) -> u64
         ensures { result ≡ self.now.faults }
     {

@@ -19,10 +19,10 @@ pub enum TextFault {
 
 /// Gives texts by their names, the selected one piece by piece.
 pub trait Texts {
-    /// The texts by name, where the source tells them.
+    /// The texts by name, where the source shows them.
     ghost held: { Self → Option NamedTexts };
 
-    /// What is left of the selected text, where the source tells it.
+    /// What is left of the selected text, where the source shows it.
     ghost left: { Self → Option (List ℕ) };
 
     /// How often a call failed.

@@ -85,7 +85,7 @@ operator_above : (bytes : List ℕ) (level place n : ℕ) (operator : Operator) 
 unfolding operator_at
 operator_above bytes level place n operator is h j low = let other : level_of operator ≢ j = omega arith in rw (is, eqb_other (level_of operator) j other) refl
 
--- a symbol has a byte, and stands within the text
+-- a symbol has a byte, and is within the text
 symbol_within : (bytes : List ℕ) (place n : ℕ) (operator : Operator) → symbol_at bytes place ≡ Some (operator, n) → (0 < n) × (place < length bytes)
 unfolding symbol_at
 symbol_within bytes place n operator is = by_first (get_or bytes place 0) refl where
@@ -163,7 +163,7 @@ Spells-forward bytes level (conditional test first second) from to s =
 abbrev reading : ℤ → ℕ → ℕ → Reading
 reading v levels end = record { value = v; levels = levels; end = end }
 
--- the operators of a level have come to what was read
+-- the operators of a level have reached what was read
 record Chain (bytes : List ℕ) (operand : Reader) (level from : ℕ) (read : Reading) : Type 0 where
   steps : ℕ
   some : 0 < steps

@@ -35,7 +35,7 @@ IsPlain (Skips n) = Unit {0}
 IsPlain (Finds kind n value) = kind ≢ Expression
 IsPlain (Fails kind) = kind ≢ BadExpr
 
--- what stands behind $( is an expression or a fault of one
+-- what is after $( is an expression or a fault of one
 abbrev IsDollar : List ℕ → Front → Type 0
 IsDollar bytes front = (get_or bytes 0 0 ≡ 36) × (get_or bytes 1 0 ≡ 40) × (front ≡ expression_token (expression_at bytes))
 

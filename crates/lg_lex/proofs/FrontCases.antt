@@ -1,4 +1,4 @@
--- Cases of what stands at the front of a text.
+-- Cases of what is at the front of a text.
 use Rattle.std.proofs.Common.{◌≡◌, Bool, true, false, cond, refl, Option, Some, None}
 use Rattle.std.specs.Option.{option_map_or}
 use Rattle.lg_lex.specs.Tokens.{Tokens}

@@ -1,4 +1,4 @@
--- What stands at the front of a text has at least a byte, and lies within the text.
+-- What is at the front of a text has at least a byte, and lies within the text.
 use Rattle.std.proofs.Common.{◌≡◌, ℕ, ◌+◌, ◌<◌, ◌≤◌, ◌&&◌, ◌||◌, Bool, true, false, cond, eqb, List, length, get_or, drop, refl, sym, ap, ◌∙◌, arith, Option, Some, None}
 use Rattle.std.specs.Char.{is_ascii_digit}
 use Rattle.std.specs.Int.{is_in_range}
@@ -115,7 +115,7 @@ blank_or_token_within : (fresh : Bool) (bytes : List ℕ) → 0 < length bytes �
 blank_or_token_within fresh bytes some None is = token_within fresh bytes some
 blank_or_token_within fresh bytes some (Some n) is = blank_within bytes n some is
 
--- what stands at the front lies within the text
+-- what is at the front lies within the text
 pub front_within : (fresh : Bool) (bytes : List ℕ) → LiesWithin (front_at fresh bytes) (length bytes)
 unfolding front_at
 front_within fresh bytes = within_cond (eqb (length bytes) 0) _ _ (length bytes) (λ none. eqb_true _ _ none) (λ some. blank_or_token_within fresh bytes (eqb_false _ some) (blank_at bytes) refl)

@@ -1,4 +1,4 @@
--- What is skipped means nothing, and stands between tokens.
+-- What is skipped means nothing, and is between tokens.
 use Rattle.std.proofs.Common.{◌≡◌, ◌≢◌, ◌⊎◌, inl, inr, ⊎_elim, ℕ, zero, suc, ◌+◌, ◌-◌, ◌<◌, ◌≤◌, ◌==◌, ◌&&◌, ◌||◌, not, Bool, true, false, cond, List, [], ◌∷◌, ◌++◌, length, get_or, take, drop, fold, refl, sym, ap, subst, ◌∙◌, arith, Option, Some, None, eqb-true, true≢false, if◌then◌else◌}
 use Rattle.std.proofs.lemmas.Bool.{and_parts, cases_lt}
 use Rattle.std.proofs.lemmas.List.{drop_all, get_or-drop, get_or_past, length-drop}
@@ -63,7 +63,7 @@ first_in_line text (suc place) h e =
 
 -- ---- a block's end
 
--- the first end of a block in bytes, and the place behind it
+-- the first end of a block in bytes, and the place after it
 record IsBlockRest (bytes : List ℕ) (n : ℕ) : Type 0 where
   pub place : ℕ
   pub ends : (get_or bytes place 0 ≡ star) × (get_or bytes (suc place) 0 ≡ slash)
@@ -233,7 +233,7 @@ module _ (text : List ℕ) (place : ℕ) where
   abbrev Apart : Tokens → Type 0
   Apart tokens = StandApart text place tokens.0 tokens.1
 
-  -- what means nothing, and a gap behind it
+  -- what means nothing, and a gap after it
   gap_before : (middle : ℕ) (tokens : List Token) (fault : Option Refusal) → MeansNothing text place middle → StandApart text middle tokens fault → StandApart text place tokens fault
   gap_before middle [] None h rest = behind place middle (length text) h rest
   gap_before middle [] (Some fault) h rest = record { place = rest.place; gap = behind place middle rest.place h rest.gap; within = rest.within; line = rest.line }

@@ -96,7 +96,7 @@ digits_escape_within radix most bytes found h =
     (λ some rest. option_map_some (λ byte. (let x : TextByte = record { len = n; byte = byte } in x)) (byte_value radix (take n bytes)) found rest
     (λ byte _ same. let len = ap (λ (x : TextByte). x.len) same in let positive = eqb_false n some in (omega arith, omega arith)))
 
--- a byte that stands for another one is no 0
+-- a byte that denotes another one is no 0
 letter_positive : (bytes : List ℕ) (byte : ℕ) → letter_escape (get_or bytes 0 0) ≡ Some byte → 0 < length bytes
 letter_positive [] byte h = absurd (none-some byte h)
 letter_positive (b ∷ bytes) byte h = omega arith

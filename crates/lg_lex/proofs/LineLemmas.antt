@@ -196,7 +196,7 @@ solid_take zero bytes some more s = absurd (omega arith)
 solid_take (suc n) [] some more s = absurd (omega arith)
 solid_take (suc n) (b ∷ bytes) some more s = solid_stays b (take n bytes) s
 
--- ---- what stands at the front
+-- ---- what is at the front
 
 -- a token of such a kind stays in its line
 abbrev pub FrontStays : List ℕ → Front → Type 0
@@ -219,7 +219,7 @@ start_goes_on b h = or_more (is_in_range 48 57 b) (is_in_range 65 90 b) (is_in_r
 solid_colon : (b : ℕ) → (b == 58) ≡ true → IsSolid b
 solid_colon b e = let P : ℕ → Type 0 = IsSolid in subst P (sym (eqb-true b 58 e)) (refl, and_false)
 
--- a word of n bytes behind its first, and a colon behind it
+-- a word of n bytes after its first, and a colon after it
 word_by : (b n : ℕ) (bytes : List ℕ) → IsSolid b → AreSolid (take n bytes) → FrontStays (b ∷ bytes) (cond (get_or (b ∷ bytes) (suc n) 0 == 58) (Finds TokenKind.LabelMark (suc n + 1) 0) (Finds TokenKind.Word (suc n) 0))
 word_by b n bytes first rest =
     stays_cond (b ∷ bytes) (get_or bytes n 0 == 58) _ _

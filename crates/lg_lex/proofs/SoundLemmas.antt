@@ -14,7 +14,7 @@ use Rattle.lg_lex.proofs.ByteLemmas.{eqb_true, option_map_some, cond_case}
 leb_true : (a b : ℕ) → leb a b ≡ true → a ≤ b
 leb_true a b h = grind (arith, nat_tests)
 
--- a tree that what was read spells, of at most so many levels
+-- a tree that what was read spells, of at most this many levels
 pub record Reads (bytes : List ℕ) (level most from : ℕ) (read : Reading) : Type 0 where
   pub tree : Tree
   pub spelled : Spells bytes level tree from read.end
@@ -22,7 +22,7 @@ pub record Reads (bytes : List ℕ) (level most from : ℕ) (read : Reading) : T
   pub levels_are : levels_of tree ≡ read.levels
   pub low : read.levels ≤ most
 
--- what stands at a level stands at a higher one
+-- what is at a level is at a higher one
 pub Spells-higher : (bytes : List ℕ) (level above : ℕ) (tree : Tree) (from to : ℕ) → level ≤ above → Spells bytes level tree from to → Spells bytes above tree from to
 Spells-higher bytes level above (literal l) from to h s = s
 Spells-higher bytes level above (parens tree) from to h s = s

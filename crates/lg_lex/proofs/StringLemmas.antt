@@ -38,7 +38,7 @@ same_values : (f g : TextByte → List ℕ) (o : Option TextByte) → ((found : 
 same_values f g None h = refl
 same_values f g (Some found) h = h found refl
 
--- so many steps as there are bytes are enough
+-- as many steps as there are bytes are enough
 values_enough : (j k : ℕ) (bytes : List ℕ) → length bytes ≤ j → length bytes ≤ k → string_values j bytes ≡ string_values k bytes
 unfolding string_values text_byte_at
 values_enough zero zero bytes p q = refl

@@ -17,7 +17,7 @@ use Rattle.lg_lex.specs.Fronts.{LiesWithin, front_at}
 use Rattle.lg_lex.specs.Tokens.{line_of, with_byte, is_fresh, Tokens, token_then, behind_piece, with_front, tokens_from, tokens_at, tokens_of, AreInOrder, Gives, IsPlace}
 use Rattle.lg_lex.proofs.FrontLemmas.{front_within}
 
--- readers that agree behind the piece agree
+-- readers that agree after the piece agree
 same_front : (text : List ℕ) (place : ℕ) (f g : ℕ → Tokens) (front : Front) → ((n : ℕ) → f (behind_piece place n) ≡ g (behind_piece place n)) → with_front text place f front ≡ with_front text place g front
 unfolding with_front
 same_front text place f g Nothing h = refl
@@ -39,7 +39,7 @@ enough (suc j) (suc k) text place p q =
     same_front text place (tokens_from j text) (tokens_from k text) (front_at (is_fresh text place) (drop place text))
     (λ n. enough j k text (behind_piece place n) (omega arith) (omega arith))
 
--- the tokens from a place on are those of the piece there and behind it
+-- the tokens from a place on are those of the piece there and after it
 pub tokens_step : (text : List ℕ) (place : ℕ) → tokens_at text place ≡ with_front text place (tokens_at text) (front_at (is_fresh text place) (drop place text))
 unfolding tokens_at tokens_from
 tokens_step text place =
@@ -50,7 +50,7 @@ tokens_step text place =
 pub piece_end : (place end n : ℕ) (bytes piece : List ℕ) → piece ≡ take n bytes → n ≤ length bytes → end ≡ place + length piece → end ≡ place + n
 piece_end place end n bytes piece e inside ends = ends ∙ ap (λ k. place + k) (ap length e ∙ length-take-le n bytes inside)
 
--- the place behind a piece
+-- the place after a piece
 pub place_behind : (text : List ℕ) (place line n end line' : ℕ) (fresh fresh' : Bool) (bytes piece : List ℕ) → IsPlace text place line fresh → bytes ≡ drop place text → piece ≡ take n bytes → n ≤ length bytes → end ≡ place + length piece → line' ≡ line + count_by (λ b. b == 10) piece → fresh' ≡ fold with_byte fresh piece → IsPlace text end line' fresh'
 place_behind text place line n end line' fresh fresh' bytes piece at rest cut inside ends lines freshes =
     let len = ap length rest ∙ length-drop place text in
@@ -142,13 +142,13 @@ space_skipped text place is =
     let e : (place + 1) + m ≡ place + n = omega (arith, one.0, same) in
     sym (spaces_skipped text (place + 1)) ∙ ap (tokens_at text) e ∙ spaces_skipped text place
 
--- the byte at a place is the first of those behind it
+-- the byte at a place is the first of those after it
 pub byte_behind : (text : List ℕ) (place : ℕ) → get_or text place 0 ≡ get_or (drop place text) 0 0
 byte_behind text place =
     let same : place + 0 ≡ place = omega arith in
     sym (get_or-drop place text 0 0 ∙ ap (λ k. get_or text k 0) same)
 
--- the place behind one byte
+-- the place after one byte
 pub place_behind_byte : (text : List ℕ) (place line b end line' : ℕ) (fresh fresh' : Bool) (bytes : List ℕ) → IsPlace text place line fresh → bytes ≡ drop place text → b ≡ get_or bytes 0 0 → 0 < length bytes → end ≡ place + 1 → line' ≡ line + (if b == 10 then 1 else 0) → fresh' ≡ with_byte fresh b → IsPlace text end line' fresh'
 place_behind_byte text place line b end line' fresh fresh' [] at rest is some ends lines freshes = absurd (omega arith)
 place_behind_byte text place line b end line' fresh fresh' (x ∷ bytes) at rest is some ends lines freshes =
@@ -178,12 +178,12 @@ in_order zero text place = tt
 in_order (suc k) text place =
     front_in_order text place (tokens_from k text) (λ n. in_order k text (behind_piece place n)) (front_at (is_fresh text place) (drop place text)) (front_within (is_fresh text place) (drop place text))
 
--- the tokens of a text stand in their order
+-- the tokens of a text are in their order
 pub tokens_of-order : (text : List ℕ) → AreInOrder text 0 (tokens_of text).0
 unfolding tokens_at
 tokens_of-order text = in_order (suc (length text)) text 0
 
--- tokens in their order are no more than the bytes behind their place
+-- tokens in their order are no more than the bytes after their place
 count_in_order : (text : List ℕ) (place : ℕ) (tokens : List Token) → place ≤ length text → AreInOrder text place tokens → place + length tokens ≤ length text
 count_in_order text place [] h order = omega arith
 count_in_order text place (token ∷ more) h order =

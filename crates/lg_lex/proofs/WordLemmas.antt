@@ -75,14 +75,14 @@ no_word : word_len [] ≡ 0
 unfolding word_len
 no_word = refl
 
--- a word behind a byte lies within the text
+-- a word after a byte lies within the text
 word_inside : (text : List ℕ) (place : ℕ) → word_len (drop 1 (drop place text)) ≢ 0 → place + 1 < length text
 word_inside text place some =
     ⊎_elim (λ (lt : place + 1 < length text). lt) (λ (le : length text ≤ place + 1). absurd (some (ap word_len (drop-drop 1 place text ∙ drop_all (place + 1) text le) ∙ no_word)))
     (cases_lt (place + 1) (length text))
 
 module _ (text : List ℕ) (place k : ℕ) (inside : place < length text) (rest : (n : ℕ) → (0 < n) × (n ≤ length (drop place text)) → Good text (tokens_from k text (behind_piece place n))) where
-  -- a token, and those behind it
+  -- a token, and those after it
   token_good : (kind : TokenKind) (line n value : ℕ) → (0 < n) × (n ≤ length (drop place text)) → IsWordToken kind text place (place + n)
       → All (IsGood text) ((record { kind = kind; line = line; start = place; end = behind_piece place n; value = value }) ∷ (tokens_from k text (behind_piece place n)).0)
   token_good kind line n value within good =

@@ -4,12 +4,12 @@ use Rattle.std.specs.List.{prefix_len}
 use Rattle.std.specs.Option.{option_map_or}
 use Rattle.lg_lex.specs.Bytes.{is_space, is_in_line, further}
 
--- how many bytes come to the first */, that included
+-- how many bytes there are up to the first */, that included
 unfoldable pub block_rest : List ℕ → Option ℕ
 block_rest [] = None
 block_rest (b ∷ bytes) = if (b == 42) && (slice_index bytes 0 == 47) then Some 2 else further 1 (block_rest bytes)
 
--- the length of a comment: // to the end of the line, or /* to the first */ behind it
+-- the length of a comment: // to the end of the line, or /* to the first */ after it
 unfoldable pub comment_at : List ℕ → Option ℕ
 comment_at bytes =
     if slice_index bytes 0 == 47 then
@@ -21,11 +21,11 @@ comment_at bytes =
 unfoldable pub blank_at : List ℕ → Option ℕ
 blank_at bytes = if is_space (slice_index bytes 0) then Some (prefix_len is_space bytes) else comment_at bytes
 
--- the place behind the white space and the comments from a place on; at most so many of them
+-- the place after the white space and the comments from a place on; at most this many of them
 unfoldable pub behind_most_blanks : ℕ → List ℕ → ℕ → ℕ
 behind_most_blanks zero bytes place = place
 behind_most_blanks (suc k) bytes place = option_map_or (λ n. behind_most_blanks k bytes (place + n)) (blank_at (drop place bytes)) place
 
--- the place behind all white space and comments from a place on; an unfinished comment is none
+-- the place after all white space and comments from a place on; an unfinished comment is none
 unfoldable pub behind_blanks : List ℕ → ℕ → ℕ
 behind_blanks bytes place = behind_most_blanks (suc (length bytes)) bytes place

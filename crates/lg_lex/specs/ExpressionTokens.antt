@@ -13,7 +13,7 @@ abbrev pub HasExpression : List ℕ → Token → Type 0
 HasExpression text token = token.kind ≡ Expression →
     (value : ℤ) × (token.value ≡ cast_unsigned w64 value) × IsExpression (drop token.start text) (token.end - token.start) value
 
--- BadExpr is the fault where $( stands in that line and no expression of the grammar
+-- BadExpr is the fault where $( is in that line and no expression of the grammar
 abbrev pub HasNoExpression : List ℕ → Refusal → Type 0
 HasNoExpression text refusal = refusal.kind ≡ BadExpr →
     (place : ℕ) × (refusal.line ≡ line_of text place) × (slice_index text place ≡ 36) × (slice_index text (place + 1) ≡ 40)

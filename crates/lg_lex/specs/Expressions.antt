@@ -1,5 +1,5 @@
 -- How an expression is read: from left to right, its value and levels at once. What an expression is, the grammar of Trees says.
--- Places are those of a list of bytes, and each part that is read ends behind the blanks that follow it.
+-- Places are those of a list of bytes, and each part that is read ends after the blanks that follow it.
 use Rattle.std.specs.Prelude.{ℕ, zero, suc, ◌+◌, max, nat_le, ◌==◌, if◌then◌else◌, ℤ, List, length, drop, slice_index, Option, Some, None, option_map, option_and_then}
 use Rattle.std.specs.Int.{w64, cast_signed}
 use Rattle.lg_lex.specs.Blanks.{behind_blanks}
@@ -13,7 +13,7 @@ use Rattle.lg_lex.specs.declared.expressions.Reading.{Reading}
 
 -- ---- the parts of an expression
 
--- behind one byte at a place, and the blanks that follow it
+-- after one byte at a place, and the blanks that follow it
 unfoldable pub behind_byte : List ℕ → ℕ → ℕ → Option ℕ
 behind_byte bytes b place = if slice_index bytes place == b then Some (behind_blanks bytes (place + 1)) else None
 
@@ -28,11 +28,11 @@ symbol_at bytes place = or_single (slice_index bytes place) (double_symbol (slic
 abbrev pub in_level : List ℕ → ℕ → ℕ → Operator × ℕ → Option (Operator × ℕ)
 in_level bytes level place found = if level_of found.0 == level then Some (found.0, behind_blanks bytes (place + found.1)) else None
 
--- the operator at a place, where it is one of a level, with the place behind it
+-- the operator at a place, where it is one of a level, with the place after it
 unfoldable pub operator_at : List ℕ → ℕ → ℕ → Option (Operator × ℕ)
 operator_at bytes level place = option_and_then (in_level bytes level place) (symbol_at bytes place)
 
--- the sign at a place, with the place behind it
+-- the sign at a place, with the place after it
 unfoldable pub sign_at : List ℕ → ℕ → Option (Sign × ℕ)
 sign_at bytes place = option_map (λ sign. (sign, behind_blanks bytes (place + 1))) (sign_symbol (slice_index bytes place))
 
@@ -93,7 +93,7 @@ binary_of bytes unary zero place = unary place
 binary_of bytes unary (suc level) place =
     option_and_then (joined bytes (binary_of bytes unary level) (suc level) (suc (length bytes))) (binary_of bytes unary level place)
 
--- a conditional of three operands, where it has at most so many levels
+-- a conditional of three operands, where it has at most this many levels
 unfoldable pub chosen : ℕ → Reading → Reading → Reading → Option Reading
 chosen most test first second = let levels = 1 + max test.levels (max first.levels second.levels) in
     if nat_le levels most then Some (record { value = if is_zero test.value then second.value else first.value; levels = levels; end = second.end })
@@ -116,7 +116,7 @@ pub record Readers : Type 0 where
   pub unary : Reader
   pub whole : Reader
 
--- what may stand below a parenthesis, a sign or a conditional where so many levels are left: nothing where none is
+-- what may be below a parenthesis, a sign or a conditional where this many levels are left: nothing where none is
 unfoldable pub readers_in : List ℕ → ℕ → Readers
 readers_in bytes zero = record { unary = λ _. None; whole = λ _. None }
 readers_in bytes (suc n) = let inner = readers_in bytes n in let unary = unary_of bytes inner.unary inner.whole in

@@ -1,4 +1,4 @@
--- What stands at the front of a text: a token, something to skip, or a fault.
+-- What is at the front of a text: a token, something to skip, or a fault.
 use Rattle.std.specs.Prelude.{ℕ, ◌+◌, ◌≡◌, ◌<◌, ◌≤◌, ◌==◌, Bool, ◌&&◌, ◌||◌, if◌then◌else◌, List, length, drop, slice_index, Option}
 use Rattle.std.specs.Int.{w64, cast_unsigned}
 use Rattle.std.specs.Char.{is_ascii_digit}
@@ -18,22 +18,22 @@ use Rattle.lg_lex.specs.Escapes.{character_at, string_at}
 use Rattle.lg_lex.specs.Expressions.{expression_at}
 use Rattle.lg_lex.specs.Numbers.{number_at}
 
--- what is found has at least a byte, and lies within so many bytes
+-- what is found has at least a byte, and lies within this many bytes
 abbrev pub LiesWithin : Front → ℕ → Type 0
 LiesWithin Nothing most = most ≡ 0
 LiesWithin (Skips n) most = (0 < n) × (n ≤ most)
 LiesWithin (Finds kind n value) most = (0 < n) × (n ≤ most)
 LiesWithin (Fails kind) most = Unit {0}
 
--- how many bytes a word at the front has, and 0 where none stands there
+-- how many bytes a word at the front has, and 0 where none is there
 unfoldable pub word_len : List ℕ → ℕ
 word_len bytes = if is_word_start (slice_index bytes 0) then prefix_len is_word_byte bytes else 0
 
--- a word, or with : directly behind it a label definition
+-- a word, or with : directly after it a label definition
 unfoldable pub word_at : List ℕ → Front
 word_at bytes = let n = word_len bytes in if slice_index bytes n == 58 then Finds LabelMark (n + 1) 0 else Finds Word n 0
 
--- a mark with a word directly behind it
+-- a mark with a word directly after it
 unfoldable pub marked_at : TokenKind → List ℕ → Front
 marked_at kind bytes = let n = word_len (drop 1 bytes) in if n == 0 then Fails BadToken else Finds kind (1 + n) 0
 
@@ -46,7 +46,7 @@ marker_at fresh bytes = let n = 1 + prefix_len (λ b. b == 32) (drop 1 bytes) in
 abbrev pub literal_token : TokenKind → Option Literal → Front
 literal_token kind literal = option_map_or (λ found. Finds kind found.len found.value) literal (Fails BadToken)
 
--- an expression, with the ) behind it
+-- an expression, with the ) after it
 abbrev pub expression_token : Option Reading → Front
 expression_token expression = option_map_or (λ read. Finds Expression (read.end + 1) (cast_unsigned w64 read.value)) expression (Fails BadExpr)
 
@@ -71,6 +71,6 @@ token_at fresh bytes = let b = slice_index bytes 0 in
     if is_word_start b then word_at bytes
     else (if is_ascii_digit b || ((b == 45) || (b == 43)) then literal_token Number (number_at bytes) else mark_at fresh bytes)
 
--- what stands at the front; fresh says that only spaces and tabs stand before it in its line
+-- what is at the front; fresh says that only spaces and tabs are before it in its line
 unfoldable pub front_at : Bool → List ℕ → Front
 front_at fresh bytes = if length bytes == 0 then Nothing else option_map_or Skips (blank_at bytes) (token_at fresh bytes)

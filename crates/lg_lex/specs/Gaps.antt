@@ -1,4 +1,4 @@
--- What stands between the tokens of a text.
+-- What is between the tokens of a text.
 use Rattle.std.specs.Prelude.{◌≡◌, ◌≢◌, ◌⊎◌, ℕ, ◌+◌, ◌<◌, ◌≤◌, true, List, [], ◌∷◌, length, slice_index, Option, Some, None}
 use Rattle.std.specs.Char.{is_ascii_digit}
 use Rattle.lg_base.specs.declared.refusal.Refusal.{Refusal}
@@ -53,7 +53,7 @@ pub record IsLineComment (text : List ℕ) (from end : ℕ) : Type 0 where
 abbrev pub IsBlockEnd : List ℕ → ℕ → Type 0
 IsBlockEnd text place = (slice_index text place ≡ star) × (slice_index text (place + 1) ≡ slash)
 
--- /* to the first */ behind it, which stands at a place
+-- /* to the first */ after it, which is at a place
 pub record IsBlockComment (text : List ℕ) (from end : ℕ) : Type 0 where
   pub first : slice_index text from ≡ slash
   pub second : slice_index text (from + 1) ≡ star
@@ -64,7 +64,7 @@ pub record IsBlockComment (text : List ℕ) (from end : ℕ) : Type 0 where
   pub is : end ≡ place + 2
   pub range : IsRange text from end
 
--- only spaces and tabs stand before a place in its line, which begins at another
+-- only spaces and tabs are before a place in its line, which begins at another
 pub record IsFirstInLine (text : List ℕ) (place : ℕ) : Type 0 where
   pub start : ℕ
   pub before : start ≤ place
@@ -87,21 +87,21 @@ pub data MeansNothing (text : List ℕ) (from end : ℕ) : Type 0 where
   block_comment : IsBlockComment text from end → MeansNothing text from end
   line_marker : IsLineMarker text from end → MeansNothing text from end
 
--- white space, comments and line markers, one behind the other
+-- white space, comments and line markers, one after the other
 pub data IsGap (text : List ℕ) : ℕ → ℕ → Type 0 where
   nothing : (place : ℕ) → IsGap text place place
   behind : (from middle end : ℕ) → MeansNothing text from middle → IsGap text middle end → IsGap text from end
 
 -- ---- between tokens
 
--- a gap leads from a place to a fault, which is told with its line
+-- a gap leads from a place to a fault, which is reported with its line
 pub record IsFault (text : List ℕ) (from : ℕ) (fault : Refusal) : Type 0 where
   pub place : ℕ
   pub gap : IsGap text from place
   pub within : place < length text
   pub line : fault.line ≡ line_of text place
 
--- from a place on: before each token, behind the last one and before the fault is a gap
+-- from a place on: before each token, after the last one and before the fault is a gap
 abbrev pub StandApart : List ℕ → ℕ → List Token → Option Refusal → Type 0
 StandApart text place [] None = IsGap text place (length text)
 StandApart text place [] (Some fault) = IsFault text place fault

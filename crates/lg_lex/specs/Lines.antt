@@ -17,6 +17,6 @@ is_solid_kind Name = true
 is_solid_kind Host = true
 is_solid_kind Str = false
 
--- bytes behind which the line is the same, and something stands in it
+-- bytes after which the line is the same, and something is in it
 abbrev pub StaysInLine : List ℕ → Type 0
 StaysInLine bytes = (count_by (λ b. b == 10) bytes ≡ 0) × ((fresh : Bool) → fold with_byte fresh bytes ≡ false)

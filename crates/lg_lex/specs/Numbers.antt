@@ -1,4 +1,4 @@
--- Numbers: decimal digits, 0x with hexadecimal digits, or 0 with octal digits, and up to three letters of u U l L behind them.
+-- Numbers: decimal digits, 0x with hexadecimal digits, or 0 with octal digits, and up to three letters of u U l L after them.
 use Rattle.std.specs.Prelude.{ℕ, ◌+◌, ◌-◌, ◌*◌, ◌%◌, ◌^◌, ◌==◌, nat_lt, if◌then◌else◌, ◌||◌, List, take, drop, slice_index, fold, Option, Some, None, option_map, option_and_then}
 use Rattle.std.specs.Char.{digit_value, is_digit, is_ascii_alphanumeric}
 use Rattle.std.specs.List.{prefix_len}
@@ -31,7 +31,7 @@ magnitude_at bytes =
     if slice_index bytes 0 == 48 then (if slice_index bytes 1 == 120 then option_map (longer 2) (digits_at 16 (drop 2 bytes)) else digits_at 8 bytes)
     else digits_at 10 bytes
 
--- at most three suffix letters, with no letter or digit behind them
+-- at most three suffix letters, with no letter or digit after them
 unfoldable pub suffix_at : List ℕ → Option ℕ
 suffix_at bytes = let n = prefix_len is_suffix_letter bytes in
     if nat_lt 3 n || is_ascii_alphanumeric (slice_index bytes n) then None else Some n
@@ -42,7 +42,7 @@ unsigned_at bytes = option_and_then
     (λ digits. option_map (λ n. record { len = digits.len + n; value = digits.value }) (suffix_at (drop digits.len bytes)))
     (magnitude_at bytes)
 
--- the number behind a -, as a word: at most 2^63
+-- the number after a -, as a word: at most 2^63
 unfoldable pub negated : Literal → Option Literal
 negated literal =
     if nat_lt (2 ^ 63) literal.value then None else Some (record { len = 1 + literal.len; value = (2 ^ 64 - literal.value) % 2 ^ 64 })

@@ -13,11 +13,11 @@ line_of text place = 1 + count_by (λ b. b == 10) (take place text)
 abbrev pub with_byte : Bool → ℕ → Bool
 with_byte fresh b = (b == 10) || (fresh && ((b == 32) || (b == 9)))
 
--- whether only spaces and tabs stand before a place in its line
+-- whether only spaces and tabs are before a place in its line
 abbrev pub is_fresh : List ℕ → ℕ → Bool
 is_fresh text place = fold with_byte true (take place text)
 
--- tokens in their order, and the fault behind them where there is one
+-- tokens in their order, and the fault after them where there is one
 abbrev pub Tokens : Type 0
 Tokens = List Token × Option Refusal
 
@@ -36,7 +36,7 @@ with_front text place behind (Finds kind n value) = token_then
     (behind (behind_piece place n))
 with_front text place behind (Fails kind) = ([], Some (record { kind = kind; line = line_of text place }))
 
--- the tokens from a place on, in at most so many pieces
+-- the tokens from a place on, in at most this many pieces
 unfoldable pub tokens_from : ℕ → List ℕ → ℕ → Tokens
 tokens_from zero text place = ([], None)
 tokens_from (suc k) text place = with_front text place (tokens_from k text) (front_at (is_fresh text place) (drop place text))
@@ -49,7 +49,7 @@ tokens_at text place = tokens_from (suc (length text)) text place
 abbrev pub tokens_of : List ℕ → Tokens
 tokens_of text = tokens_at text 0
 
--- tokens in their order: each has at least a byte, lies within the text, and begins at or behind the end of the one before it
+-- tokens in their order: each has at least a byte, lies within the text, and begins at or after the end of the one before it
 abbrev pub AreInOrder : List ℕ → ℕ → List Token → Type 0
 AreInOrder text place [] = Unit {0}
 AreInOrder text place (token ∷ more) =

@@ -33,7 +33,7 @@ levels_of (unary sign tree) = 1 + levels_of tree
 levels_of (binary operator left right) = max (levels_of left) (levels_of right)
 levels_of (conditional test first second) = 1 + max (levels_of test) (max (levels_of first) (levels_of second))
 
--- the bytes between two places spell a tree, the blanks behind it included. The level says what may stand there:
+-- the bytes between two places spell a tree, the blanks after it included. The level says what may be there:
 -- 0 an operand, 1 to 10 the operators up to that level, 11 every expression. Operators of one level group to the left, conditionals to the right
 abbrev pub Spells : List ℕ → ℕ → Tree → ℕ → ℕ → Type 0
 Spells bytes level (literal l) from to = (literal_at (drop from bytes) ≡ Some l) × (to ≡ behind_blanks bytes (from + l.len))
@@ -50,7 +50,7 @@ Spells bytes level (conditional test first second) from to =
     × (mid : ℕ) × Spells bytes 11 first (behind_blanks bytes (end + 1)) mid × (slice_index bytes mid ≡ 58)
     × Spells bytes 11 second (behind_blanks bytes (mid + 1)) to
 
--- bytes that begin with $( have an expression of so many bytes and of this value in front: $(, blanks, a tree of at most 64 levels, and )
+-- bytes that begin with $( have an expression of this many bytes and of this value in front: $(, blanks, a tree of at most 64 levels, and )
 pub record IsExpression (bytes : List ℕ) (len : ℕ) (value : ℤ) : Type 0 where
   pub tree : Tree
   pub end : ℕ

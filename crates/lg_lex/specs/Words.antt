@@ -14,14 +14,14 @@ pub record IsWholeWord (text : List ℕ) (from end : ℕ) : Type 0 where
   pub bytes : (k : ℕ) → from ≤ k → k < end → is_word_byte (slice_index text k) ≡ true
   pub stops : is_word_byte (slice_index text end) ≡ false
 
--- a mark with a whole word directly behind it
+-- a mark with a whole word directly after it
 abbrev pub IsMarkedWord : ℕ → List ℕ → ℕ → ℕ → Type 0
 IsMarkedWord mark text from end = (slice_index text from ≡ mark) × IsWholeWord text (from + 1) end
 
 abbrev pub colon : ℕ
 colon = 58
 
--- a label definition is a whole word and the colon directly behind it
+-- a label definition is a whole word and the colon directly after it
 pub record IsLabelMark (text : List ℕ) (from end : ℕ) : Type 0 where
   pub place : ℕ
   pub word : IsWholeWord text from place

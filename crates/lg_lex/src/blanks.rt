@@ -5,7 +5,7 @@ ghost use Rattle.lg_lex.specs.Blanks.{block_rest, comment_at, blank_at, behind_b
 
 use crate::bytes::{behind, byte_at, closes_block, is_space, line_len, space_len};
 
-// How many bytes come to the first `*/`, that included.
+// Returns how many bytes there are up to the first `*/`, that included.
 fn block_rest(bytes: &[u8]) -> Option<usize>
     ensures value { result ≡ block_rest bytes.now }
     ensures inside { IfSome result (λ n. n ≤ length bytes.now) }
@@ -18,7 +18,7 @@ fn block_rest(bytes: &[u8]) -> Option<usize>
     None
 }
 
-// The length of a comment at the front, whose first byte is `/`.
+// Returns the length of a comment at the front, whose first byte is `/`.
 #[inline(never)]
 #[tactic(auto, unfolding(crate::specs::Blanks::comment_at))]
 fn slashed(bytes: &[u8]) -> Option<usize>
@@ -36,7 +36,7 @@ fn slashed(bytes: &[u8]) -> Option<usize>
     }
 }
 
-// The length of a comment at the front.
+// Returns the length of a comment at the front.
 #[tactic(auto, unfolding(crate::specs::Blanks::comment_at))]
 fn comment(bytes: &[u8]) -> Option<usize>
     ensures value { result ≡ comment_at bytes.now }
@@ -48,7 +48,7 @@ fn comment(bytes: &[u8]) -> Option<usize>
     slashed(bytes)
 }
 
-/// The length of white space or of a comment at the front, and None where neither stands there or the comment is unfinished.
+/// Returns the length of white space or of a comment at the front, or `None` if neither is there or the comment is unfinished.
 #[tactic(auto, unfolding(crate::specs::Blanks::blank_at))]
 pub(crate) fn blank(bytes: &[u8]) -> Option<usize>
     ensures value { result ≡ blank_at bytes.now }
@@ -61,7 +61,7 @@ pub(crate) fn blank(bytes: &[u8]) -> Option<usize>
     }
 }
 
-/// The place behind the white space and the comments from a place on.
+/// Returns the place after the white space and the comments from a place on.
 pub(crate) fn behind_blanks(bytes: &[u8], place: usize) -> usize
     requires { place ≤ length bytes.now }
     ensures value { result ≡ behind_blanks bytes.now place }

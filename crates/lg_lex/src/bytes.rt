@@ -6,28 +6,28 @@ ghost use Rattle.std.specs.List.{prefix_len};
 ghost use Rattle.lg_base.specs.WordBytes.{is_word_byte};
 ghost use Rattle.lg_lex.specs.Bytes.{is_space, is_suffix_letter, is_in_line};
 
-/// The byte at a place from 0 on, and 0 past the end.
+/// Returns the byte at a place from 0 on, and 0 past the end.
 pub fn byte_at(bytes: &[u8], at: usize) -> u8
     ensures { result ≡ slice_index bytes.now at }
 {
     bytes.get(at).copied().unwrap_or(0)
 }
 
-/// The bytes from the n-th on, none where there are fewer.
+/// Returns the bytes from the n-th on, none where there are fewer.
 pub fn behind(bytes: &[u8], n: usize) -> &[u8]
     ensures { result.now ≡ drop n bytes.now }
 {
     bytes.split_at(n.min(bytes.len())).1
 }
 
-/// The first n bytes, all where there are fewer.
+/// Returns the first n bytes, all where there are fewer.
 pub fn ahead(bytes: &[u8], n: usize) -> &[u8]
     ensures { result.now ≡ take n bytes.now }
 {
     bytes.split_at(n.min(bytes.len())).0
 }
 
-/// Whether a byte `b`, a `*` at place `at`, and the byte behind it end a comment.
+/// Returns whether a byte `b`, a `*` at place `at`, and the byte after it end a comment.
 pub fn closes_block(bytes: &[u8], at: usize, b: u8) -> bool
     requires { at < length bytes.now }
     ensures { result ≡ ((b == 42) && (slice_index bytes.now (at + 1) == 47)) }
@@ -35,21 +35,21 @@ pub fn closes_block(bytes: &[u8], at: usize, b: u8) -> bool
     b == b'*' && byte_at(bytes, at + 1) == b'/'
 }
 
-/// Whether a byte is white space.
+/// Returns whether a byte is white space.
 pub(crate) fn is_space(b: u8) -> bool
     ensures { result ≡ is_space b }
 {
     b == b' ' || (b'\t' <= b && b <= b'\r')
 }
 
-/// Whether a byte may stand behind the digits of a number.
+/// Returns whether a byte may be after the digits of a number.
 pub(crate) fn is_suffix_letter(b: u8) -> bool
     ensures { result ≡ is_suffix_letter b }
 {
     b == b'u' || b == b'U' || b == b'l' || b == b'L'
 }
 
-/// How many bytes of white space stand at the front.
+/// Returns how many bytes of white space are at the front.
 pub(crate) fn space_len(bytes: &[u8]) -> usize
     ensures value { result ≡ prefix_len is_space bytes.now }
     ensures inside { result ≤ length bytes.now }
@@ -57,7 +57,7 @@ pub(crate) fn space_len(bytes: &[u8]) -> usize
     bytes.iter().take_while(|b| is_space(**b)).count()
 }
 
-/// How many spaces stand at the front.
+/// Returns how many spaces are at the front.
 pub(crate) fn gap_len(bytes: &[u8]) -> usize
     ensures value { result ≡ prefix_len (λ b. b == 32) bytes.now }
     ensures inside { result ≤ length bytes.now }
@@ -88,7 +88,7 @@ static GOES_ON: [bool; 256] = [
     false, false, false, false, false, false, false, false, false, false,
 ];
 
-// Whether a word may go on with a byte.
+// Returns whether a word may go on with a byte.
 #[tactic(auto, using(crate::proofs::WordByteLemmas::goes_on))]
 fn goes_on(b: u8) -> bool
     ensures { result ≡ is_word_byte b }
@@ -96,7 +96,7 @@ fn goes_on(b: u8) -> bool
     GOES_ON[b as usize]
 }
 
-/// How many bytes of words stand at the front: letters, digits and `_`.
+/// Returns how many bytes of words are at the front: letters, digits and `_`.
 pub fn word_byte_len(bytes: &[u8]) -> usize
     ensures value { result ≡ prefix_len is_word_byte bytes.now }
     ensures inside { result ≤ length bytes.now }
@@ -104,7 +104,7 @@ pub fn word_byte_len(bytes: &[u8]) -> usize
     bytes.iter().take_while(|b| goes_on(**b)).count()
 }
 
-/// How many bytes stand at the front before the first line feed.
+/// Returns how many bytes are at the front before the first line feed.
 pub fn line_len(bytes: &[u8]) -> usize
     ensures value { result ≡ prefix_len is_in_line bytes.now }
     ensures inside { result ≤ length bytes.now }
@@ -112,7 +112,7 @@ pub fn line_len(bytes: &[u8]) -> usize
     bytes.iter().take_while(|b| **b != b'\n').count()
 }
 
-/// How many letters of `u U l L` stand at the front.
+/// Returns how many letters of `u U l L` are at the front.
 pub(crate) fn suffix_letter_len(bytes: &[u8]) -> usize
     ensures value { result ≡ prefix_len is_suffix_letter bytes.now }
     ensures inside { result ≤ length bytes.now }
@@ -120,7 +120,7 @@ pub(crate) fn suffix_letter_len(bytes: &[u8]) -> usize
     bytes.iter().take_while(|b| is_suffix_letter(**b)).count()
 }
 
-/// How many digits of a radix stand at the front.
+/// Returns how many digits of a radix are at the front.
 pub(crate) fn digit_len(bytes: &[u8], radix: u32) -> usize
     requires low { 2 ≤ radix }
     requires high { radix ≤ 16 }

@@ -6,14 +6,14 @@ ghost use Rattle.lg_lex.specs.Escapes.{letter_escape, byte_value, digits_escape,
 use crate::bytes::{ahead, behind, byte_at, digit_len};
 use crate::numbers::{Literal, digits_value};
 
-/// One byte or one escape at the front of a text: how many bytes it takes, and the byte that it stands for.
+/// One byte or one escape at the front of a text: how many bytes it takes, and the byte that it denotes.
 #[derive(Clone, Copy)]
 pub(crate) struct TextByte {
     pub(crate) len: usize,
     pub(crate) byte: u8,
 }
 
-// The byte that one letter or mark behind `\` stands for.
+// Returns the byte that one letter or mark after `\` denotes.
 fn letter_escape(b: u8) -> Option<u8>
     ensures { result ≡ letter_escape b }
 {
@@ -30,7 +30,7 @@ fn letter_escape(b: u8) -> Option<u8>
     }
 }
 
-// The value of digits, at most 255.
+// Returns the value of digits, at most 255.
 #[tactic(auto, unfolding(crate::specs::Escapes::byte_value, crate::specs::Numbers::narrowed))]
 fn byte_value(digits: &[u8], radix: u32) -> Option<u8>
     requires { 0 < radix }
@@ -39,7 +39,7 @@ fn byte_value(digits: &[u8], radix: u32) -> Option<u8>
     u8::try_from(digits_value(digits, radix)?).ok()
 }
 
-// At least one and at most so many digits of a radix, of value at most 255.
+// At least one and at most this many digits of a radix, of value at most 255.
 #[tactic(auto, unfolding(crate::specs::Escapes::digits_escape))]
 fn digits_escape(bytes: &[u8], radix: u32, most: usize) -> Option<TextByte>
     requires low { 2 ≤ radix }
@@ -55,7 +55,7 @@ fn digits_escape(bytes: &[u8], radix: u32, most: usize) -> Option<TextByte>
     Some(TextByte { len, byte })
 }
 
-// An escape, from the byte behind `\` on.
+// An escape, from the byte after `\` on.
 #[tactic(auto, unfolding(crate::specs::Escapes::escape_at))]
 fn escape(bytes: &[u8]) -> Option<TextByte>
     ensures value { result ≡ escape_at bytes.now }
@@ -98,7 +98,7 @@ fn text_byte(bytes: &[u8]) -> Option<TextByte>
     }
 }
 
-// The end of a character behind its byte.
+// Returns the end of a character after its byte.
 #[tactic(auto, unfolding(crate::specs::Escapes::character_end))]
 fn character_end(bytes: &[u8], found: TextByte) -> Option<Literal>
     requires { found.len < length bytes.now }
@@ -127,7 +127,7 @@ pub(crate) fn character(bytes: &[u8]) -> Option<Literal>
     character_end(bytes, found)
 }
 
-/// The length of a string, from its opening quote on, and None where it is unfinished or malformed.
+/// Returns the length of a string, from its opening quote on, or `None` if it is unfinished or malformed.
 #[tactic(auto, unfolding(crate::specs::Escapes::string_at))]
 pub(crate) fn string_len(bytes: &[u8]) -> Option<usize>
     requires { 0 < length bytes.now }
@@ -146,7 +146,7 @@ pub(crate) fn string_len(bytes: &[u8]) -> Option<usize>
 
 /// The next byte of a string token, and None exactly at its end.
 ///
-/// `slice` is the text of the token with its quotes. `at` is 0 at first, and each byte moves it on to the place behind
+/// `slice` is the text of the token with its quotes. `at` is 0 at first, and each byte moves it on to the place after
 /// what was read: one byte or one escape of the token.
 #[tactic(auto, unfolding(crate::specs::Escapes::string_left))]
 pub fn string_bytes(slice: &[u8], at: &mut usize) -> Option<u8>

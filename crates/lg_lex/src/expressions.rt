@@ -12,7 +12,7 @@ use crate::operators::{Operator, Sign, is_zero};
 // The levels that an expression may have: parentheses, signs and conditionals around one another.
 const MOST_LEVELS: u32 = 64;
 
-/// What was read of an expression: its value, its levels, and the place where it ends, behind the blanks that follow it.
+/// What was read of an expression: its value, its levels, and the place where it ends, after the blanks that follow it.
 #[derive(Clone, Copy)]
 pub(crate) struct Reading {
     pub(crate) value: i64,
@@ -20,7 +20,7 @@ pub(crate) struct Reading {
     pub(crate) end: usize,
 }
 
-// The place behind one byte and the blanks that follow it.
+// Returns the place after one byte and the blanks that follow it.
 #[tactic(auto, unfolding(crate::specs::Expressions::behind_byte))]
 fn behind_byte(bytes: &[u8], b: u8, place: usize) -> Option<usize>
     requires mark { 0 < b }
@@ -34,7 +34,7 @@ fn behind_byte(bytes: &[u8], b: u8, place: usize) -> Option<usize>
     }
 }
 
-// The longest operator at a place, with its length.
+// Returns the longest operator at a place, with its length.
 #[tactic(auto, unfolding(crate::specs::Expressions::symbol_at))]
 fn symbol(bytes: &[u8], place: usize) -> Option<(Operator, usize)>
     requires { place ≤ length bytes.now }
@@ -50,7 +50,7 @@ fn symbol(bytes: &[u8], place: usize) -> Option<(Operator, usize)>
     }
 }
 
-// The operator at a place, where it is one of a level, with the place behind it.
+// Returns the operator at a place, where it is one of a level, with the place after it.
 #[tactic(auto, unfolding(crate::specs::Expressions::operator_at))]
 fn operator(bytes: &[u8], level: u32, place: usize) -> Option<(Operator, usize)>
     requires { place ≤ length bytes.now }
@@ -65,7 +65,7 @@ fn operator(bytes: &[u8], level: u32, place: usize) -> Option<(Operator, usize)>
     }
 }
 
-// The sign at a place, with the place behind it.
+// Returns the sign at a place, with the place after it.
 #[tactic(auto, unfolding(crate::specs::Expressions::sign_at))]
 fn sign(bytes: &[u8], place: usize) -> Option<(Sign, usize)>
     requires { place ≤ length bytes.now }
@@ -89,7 +89,7 @@ fn literal(bytes: &[u8]) -> Option<Literal>
     }
 }
 
-// The constant at a place.
+// Returns the constant at a place.
 #[tactic(auto, unfolding(crate::specs::Expressions::constant_at))]
 fn constant(bytes: &[u8], place: usize) -> Option<Reading>
     requires { place ≤ length bytes.now }
@@ -148,7 +148,7 @@ fn combined(operator: Operator, left: Reading, right: Reading) -> Option<Reading
     })
 }
 
-// A conditional of three operands, where it has at most so many levels.
+// A conditional of three operands, where it has at most this many levels.
 #[tactic(auto, unfolding(crate::specs::Expressions::chosen))]
 fn chosen(most: u32, test: Reading, first: Reading, second: Reading) -> Option<Reading>
     requires tests { test.levels < 2 ^ 31 }
@@ -174,10 +174,10 @@ fn chosen(most: u32, test: Reading, first: Reading, second: Reading) -> Option<R
     })
 }
 
-// A sign and its operand, an expression in parentheses, a number or a character, of at most so many levels.
+// A sign and its operand, an expression in parentheses, a number or a character, of at most this many levels.
 //
 // These six functions call one another at most 16 deep for each level, so at most 16 * 64 + 15 deep in all, whatever the text is:
-// operators of one level are a loop, and what is in parentheses, behind a sign or in a conditional has a level less.
+// operators of one level are a loop, and what is in parentheses, after a sign or in a conditional has a level less.
 #[tactic(auto, unfolding(crate::specs::Expressions::unary_at, crate::specs::Expressions::unary_of, crate::specs::Expressions::unary_by))]
 #[cycle(expression)]
 fn unary(bytes: &[u8], place: usize, levels: u32) -> Option<Reading>
@@ -200,7 +200,7 @@ fn unary(bytes: &[u8], place: usize, levels: u32) -> Option<Reading>
     }
 }
 
-// What may stand behind a sign where so many levels are left.
+// What may be after a sign where this many levels are left.
 #[tactic(auto, unfolding(crate::specs::Expressions::inner_unary, crate::specs::Expressions::readers_in))]
 #[cycle(expression)]
 fn inner_unary(bytes: &[u8], place: usize, levels: u32) -> Option<Reading>
@@ -216,7 +216,7 @@ fn inner_unary(bytes: &[u8], place: usize, levels: u32) -> Option<Reading>
     unary(bytes, place, levels - 1)
 }
 
-// What may stand in parentheses or in a conditional where so many levels are left.
+// What may be in parentheses or in a conditional where this many levels are left.
 #[tactic(auto, unfolding(crate::specs::Expressions::inner_whole, crate::specs::Expressions::readers_in))]
 #[cycle(expression)]
 fn inner_whole(bytes: &[u8], place: usize, levels: u32) -> Option<Reading>
@@ -253,7 +253,7 @@ fn binary(bytes: &[u8], place: usize, levels: u32, level: u32) -> Option<Reading
     Some(left)
 }
 
-// A conditional behind its `?`.
+// A conditional after its `?`.
 #[tactic(auto, unfolding(crate::specs::Expressions::chosen_by))]
 #[cycle(expression)]
 fn conditional(bytes: &[u8], test: Reading, next: usize, levels: u32) -> Option<Reading>
@@ -270,7 +270,7 @@ fn conditional(bytes: &[u8], test: Reading, next: usize, levels: u32) -> Option<
     chosen(levels, test, first, second)
 }
 
-// An expression of at most so many levels.
+// An expression of at most this many levels.
 #[tactic(auto, unfolding(crate::specs::Expressions::whole_at, crate::specs::Expressions::whole_of))]
 #[cycle(expression)]
 fn whole(bytes: &[u8], place: usize, levels: u32) -> Option<Reading>

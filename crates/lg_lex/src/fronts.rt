@@ -1,4 +1,4 @@
-// What stands at the front of a text.
+// What is at the front of a text.
 
 ghost use Rattle.std.specs.Prelude.{◌≡◌, ◌<◌, ◌≤◌, length, slice_index};
 ghost use Rattle.lg_lex.specs.Escapes.{character_at, string_at};
@@ -14,12 +14,12 @@ use crate::token::TokenKind;
 use lg_base::RefusalKind;
 use lg_base::word_bytes::is_word_start;
 
-/// What stands at the front of a text.
+/// What is at the front of a text.
 #[derive(Clone, Copy)]
 pub(crate) enum Front {
     /// Nothing: the text is at its end.
     Nothing,
-    /// So many bytes that mean nothing: white space, a comment or a line marker.
+    /// This many bytes that mean nothing: white space, a comment or a line marker.
     Skips(usize),
     /// A token: its kind, its length and its value.
     Finds(TokenKind, usize, u64),
@@ -27,7 +27,7 @@ pub(crate) enum Front {
     Fails(RefusalKind),
 }
 
-// How many bytes a word at the front has, and 0 where none stands there.
+// Returns how many bytes a word at the front has, and 0 where none is there.
 #[tactic(auto, unfolding(crate::specs::Fronts::word_len))]
 fn word_len(bytes: &[u8]) -> usize
     ensures value { result ≡ word_len bytes.now }
@@ -55,7 +55,7 @@ fn word(bytes: &[u8]) -> Front
     }
 }
 
-// A mark with a word directly behind it.
+// A mark with a word directly after it.
 #[tactic(auto, unfolding(crate::specs::Fronts::marked_at))]
 fn marked(bytes: &[u8], kind: TokenKind) -> Front
     ensures value { result ≡ marked_at kind bytes.now }
@@ -173,7 +173,7 @@ fn token(bytes: &[u8], fresh: bool) -> Front
     }
 }
 
-/// What stands at the front of a text; `fresh` says that only spaces and tabs stand before it in its line.
+/// What is at the front of a text; `fresh` says that only spaces and tabs are before it in its line.
 #[tactic(auto, unfolding(crate::specs::Fronts::front_at))]
 pub(crate) fn front_of(bytes: &[u8], fresh: bool) -> Front
     ensures value { result ≡ front_at fresh bytes.now }

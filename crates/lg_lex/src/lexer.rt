@@ -13,7 +13,7 @@ use std::marker::Model;
 
 /// The tokens of a text, read one after the other. It takes no memory.
 ///
-/// In a contract a `Lexer` is what is left of the text: its tokens in order, and behind them the first fault, if there is one.
+/// In a contract a `Lexer` is what is left of the text: its tokens in order, and after them the first fault, if there is one.
 #[derive(Drop)]
 pub struct Lexer<'a> {
     text: &'a [u8],
@@ -29,7 +29,7 @@ impl<'a> Model for Lexer<'a> {
 }
 
 impl<'a> Lexer<'a> {
-    /// A reader of the tokens of a text of at most 16,777,216 bytes.
+    /// Returns a reader of the tokens of a text of at most 16,777,216 bytes.
     pub fn new(text: &'a [u8]) -> Self
         requires { length text.now ≤ 16777216 }
         ensures tokens { result ≡ tokens_of text.now }

@@ -13,7 +13,7 @@ pub(crate) struct Literal {
     pub(crate) value: u64,
 }
 
-// The value with one more digit behind it.
+// Returns the value with one more digit after it.
 #[tactic(auto, unfolding(crate::specs::Numbers::narrowed))]
 fn with_digit(radix: u32, value: u64, b: u8) -> Option<u64>
     ensures { result ≡ narrowed (with_digit radix value b) }
@@ -24,7 +24,7 @@ fn with_digit(radix: u32, value: u64, b: u8) -> Option<u64>
         .checked_add(u64::from(digit))
 }
 
-/// The value of digits of a radix, and None where it is too wide for a word.
+/// Returns the value of digits of a radix, or `None` if it is too wide for a word.
 pub(crate) fn digits_value(digits: &[u8], radix: u32) -> Option<u64>
     requires { 0 < radix }
     ensures { result ≡ narrowed (digits_value radix digits.now) }
@@ -55,7 +55,7 @@ fn digits(bytes: &[u8], radix: u32) -> Option<Literal>
     Some(Literal { len, value })
 }
 
-// Digits with their prefix: hexadecimal behind `0x`, octal behind `0`, else decimal.
+// Digits with their prefix: hexadecimal after `0x`, octal after `0`, else decimal.
 #[tactic(auto, unfolding(crate::specs::Numbers::magnitude_at))]
 fn magnitude(bytes: &[u8]) -> Option<Literal>
     ensures value { result ≡ magnitude_at bytes.now }
@@ -74,7 +74,7 @@ fn magnitude(bytes: &[u8]) -> Option<Literal>
     })
 }
 
-// How many suffix letters stand behind the digits of a number that ends there.
+// Returns how many suffix letters are after the digits of a number that ends there.
 #[tactic(auto, unfolding(crate::specs::Numbers::suffix_at))]
 fn suffix(bytes: &[u8]) -> Option<usize>
     ensures value { result ≡ suffix_at bytes.now }
@@ -88,7 +88,7 @@ fn suffix(bytes: &[u8]) -> Option<usize>
     }
 }
 
-/// A number without a sign at the front, and None where none stands there or it is malformed or too wide.
+/// A number without a sign at the front, and None where none is there or it is malformed or too wide.
 #[tactic(auto, unfolding(crate::specs::Numbers::unsigned_at))]
 pub(crate) fn unsigned(bytes: &[u8]) -> Option<Literal>
     ensures value { result ≡ unsigned_at bytes.now }
@@ -102,7 +102,7 @@ pub(crate) fn unsigned(bytes: &[u8]) -> Option<Literal>
     })
 }
 
-// The number behind a `-`.
+// Returns the number after a `-`.
 #[tactic(auto, unfolding(crate::specs::Numbers::negated))]
 fn negated(found: Literal) -> Option<Literal>
     requires { found.len < 2 ^ 63 }
@@ -118,7 +118,7 @@ fn negated(found: Literal) -> Option<Literal>
     })
 }
 
-/// A number with an optional sign at the front, and None where none stands there or it is malformed or too wide.
+/// A number with an optional sign at the front, and None where none is there or it is malformed or too wide.
 #[tactic(auto, unfolding(crate::specs::Numbers::number_at))]
 pub(crate) fn number(bytes: &[u8]) -> Option<Literal>
     ensures value { result ≡ number_at bytes.now }

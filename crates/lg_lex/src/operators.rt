@@ -55,7 +55,7 @@ impl Operator {
         }
     }
 
-    /// The operator of two bytes, and None where they are none.
+    /// Returns the operator of two bytes, or `None` if they are none.
     pub(crate) fn double(first: u8, second: u8) -> Option<Operator>
         ensures { result ≡ double_symbol first second }
     {
@@ -72,7 +72,7 @@ impl Operator {
         }
     }
 
-    /// The operator of one byte, and None where it is none.
+    /// Returns the operator of one byte, or `None` if it is none.
     pub(crate) fn single(byte: u8) -> Option<Operator>
         ensures { result ≡ single_symbol byte }
     {
@@ -119,7 +119,7 @@ impl Operator {
 }
 
 impl Sign {
-    /// The sign of a byte, and None where it is none.
+    /// Returns the sign of a byte, or `None` if it is none.
     pub(crate) fn by_symbol(byte: u8) -> Option<Sign>
         ensures { result ≡ sign_symbol byte }
     {
@@ -145,7 +145,7 @@ impl Sign {
     }
 }
 
-/// Whether a value is 0, which is false in a condition.
+/// Returns whether a value is 0, which is false in a condition.
 pub(crate) fn is_zero(a: i64) -> bool
     ensures { result ≡ is_zero a }
 {
@@ -191,7 +191,7 @@ fn negative(a: i64) -> i64
     a.wrapping_neg()
 }
 
-// The quotient towards zero; the least number by -1 is itself.
+// Returns the quotient towards zero; the least number by -1 is itself.
 fn quotient(a: i64, b: i64) -> Option<i64>
     ensures { result ≡ (if is_zero b then None else Some (int_wrapping_div w64 a b)) }
 {
@@ -202,7 +202,7 @@ fn quotient(a: i64, b: i64) -> Option<i64>
     }
 }
 
-// The remainder of the quotient towards zero; that of the least number by -1 is 0.
+// Returns the remainder of the quotient towards zero; that of the least number by -1 is 0.
 fn remainder(a: i64, b: i64) -> Option<i64>
     ensures { result ≡ (if is_zero b then None else Some (int_rem a b)) }
 {

@@ -6,7 +6,7 @@ ghost use Rattle.lg_lex.specs.Tokens.{with_byte};
 
 use crate::token::TokenKind;
 
-/// A place of a text: the bytes before it, its line, and whether only spaces and tabs stand before it in its line.
+/// A place of a text: the bytes before it, its line, and whether only spaces and tabs are before it in its line.
 #[derive(Clone, Copy)]
 pub(crate) struct Place {
     pub(crate) offset: usize,
@@ -14,7 +14,7 @@ pub(crate) struct Place {
     pub(crate) fresh: bool,
 }
 
-/// The first place of a text.
+/// Returns the first place of a text.
 pub(crate) fn first_place() -> Place
     ensures { result ≡ record { offset = 0; line = 1; fresh = true } }
 {
@@ -25,7 +25,7 @@ pub(crate) fn first_place() -> Place
     }
 }
 
-/// The place behind further bytes.
+/// Returns the place after further bytes.
 pub(crate) fn passed(place: Place, bytes: &[u8]) -> Place
     requires lines { place.line + length bytes.now < 2 ^ 32 }
     requires room { place.offset + length bytes.now < 2 ^ 32 }
@@ -48,7 +48,7 @@ pub(crate) fn passed(place: Place, bytes: &[u8]) -> Place
     }
 }
 
-// Whether tokens of a kind are a word, a mark and a word, or a number, which stay in their line.
+// Returns whether tokens of a kind are a word, a mark and a word, or a number, which stay in their line.
 fn is_solid_kind(kind: TokenKind) -> bool
     ensures { result ≡ is_solid_kind kind }
 {
@@ -64,7 +64,7 @@ fn is_solid_kind(kind: TokenKind) -> bool
     )
 }
 
-/// Goes behind a token of a kind. Of a word or a number no byte is looked at.
+/// Moves past a token of a kind. Of a word or a number no byte is looked at.
 #[inline(always)]
 pub(crate) fn pass_token(place: &mut Place, kind: TokenKind, bytes: &[u8])
     requires lines { place.old.line + length bytes.now < 2 ^ 32 }
@@ -82,7 +82,7 @@ pub(crate) fn pass_token(place: &mut Place, kind: TokenKind, bytes: &[u8])
     }
 }
 
-/// Goes behind one byte. A space leaves the line and what stands in it as they are.
+/// Moves past one byte. A space leaves the line and what is in it as they are.
 #[inline(always)]
 pub(crate) fn pass_byte(place: &mut Place, b: u8)
     requires lines { place.old.line + 1 < 2 ^ 32 }
@@ -98,7 +98,7 @@ pub(crate) fn pass_byte(place: &mut Place, b: u8)
     }
 }
 
-// Whether only spaces and tabs stand before in the line, behind one more byte.
+// Returns whether only spaces and tabs are before in the line, after one more byte.
 fn is_fresh_behind(fresh: bool, b: u8) -> bool
     ensures { result ≡ with_byte fresh b }
 {

@@ -7,7 +7,7 @@ pub enum TokenKind {
     Word,
     /// `.` and a word.
     Directive,
-    /// A word with `:` directly behind it, which defines a label.
+    /// A word with `:` directly after it, which defines a label.
     LabelMark,
     /// `%` and a word.
     Register,
@@ -34,7 +34,7 @@ pub struct Token {
     pub line: u32,
     /// The place of its first byte in the text.
     pub start: u32,
-    /// The place behind its last byte.
+    /// The place after its last byte.
     pub end: u32,
     /// The value of a number, character or expression as a word of 64 bits, negative ones in two's complement; 0 for the others.
     pub value: u64,

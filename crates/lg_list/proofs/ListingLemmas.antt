@@ -32,7 +32,7 @@ labels-elsewhere i n words places word place e f b = rw (drop_at words n word (s
 pub labels-none : (i : ℕ) (words : List (List ℕ)) (places : List (Option Place)) → words ≡ [] → labels_at i words places ≡ []
 labels-none i words places e = rw e refl
 
--- a label's line, and those behind it
+-- a label's line, and those after it
 pub rendered-label : (at : ℕ) (word : List ℕ) (es : List Entry) → rendered at (Label word ∷ es) ≡ label_line at word ++ rendered at es
 rendered-label at word es = let e : at + 0 ≡ at = omega arith in ap (λ k. label_line at word ++ rendered k es) e
 
@@ -71,7 +71,7 @@ pub Placed-below : (d i : ℕ) (places : List ℕ) (nodes len : ℕ) → i + d �
 Placed-below zero i places nodes len e p = let h : i ≡ nodes = omega arith in let l = p.last in rw h (omega arith)
 Placed-below (suc d) i places nodes len e p = let r = p.rise i (omega arith) in let h = Placed-below d (i + 1) places nodes len (omega arith) p in omega arith
 
--- the instruction that stands at an offset, its line, and those behind it
+-- the instruction that is at an offset, its line, and those after it
 pub code-step : (fuel at done : ℕ) (t : Target) (bytes : List ℕ) (i : Instruction) (n : ℕ) → 0 < fuel → front t (drop done bytes) ≡ Some (i, n) → n ≡ length (spelling i) → (k : ℕ) × (fuel ≡ suc k) × (rendered (at + done) (map Code (first_instructions fuel t (drop done bytes))) ≡ instruction_line (at + done) i ++ rendered (at + (done + n)) (map Code (first_instructions k t (drop (done + n) bytes))))
 code-step zero at done t bytes i n h e l = absurd (omega arith)
 code-step (suc k) at done t bytes i n h e l =

@@ -49,7 +49,7 @@ pub left-from : (i from : ℕ) (words : List (List ℕ)) (places : List (Option 
 left-from i from words places None e le n z = labels-done i from words places e le z
 left-from i from words places (Some l) e le n z = labels-skip (l.0 - from) i from l.0 words places e (omega (arith, n.later)) (omega (arith, n.within)) n.none
 
--- a label, and those behind it
+-- a label, and those after it
 pub labels-here : (i : ℕ) (words : List (List ℕ)) (places : List (Option Place)) (word : List ℕ) (l : ℕ) → NextAt places i l l → Some word ≡ slice_get words l → labels_at i (drop l words) (drop l places) ≡ Label word ∷ labels_at i (drop (l + 1) words) (drop (l + 1) places)
 labels-here i words places word l n w = labels-bound i l words places word (get_or places l None) w (sym (slice_get-get_or places l None n.within)) n.bound
 

@@ -17,6 +17,6 @@ spelling-short (instruction.X86_64 i) = omega (arith, (sized i).short)
 spelling-short (instruction.Aarch64 i) = omega arith
 spelling-short (instruction.Riscv64 i) = omega arith
 
--- where bytes begin with an instruction, so many of them are its own
+-- where bytes begin with an instruction, this many of them are its own
 pub first-are : (bytes own more : List ℕ) (n : ℕ) → bytes ≡ own ++ more → n ≡ length own → take n bytes ≡ own
 first-are bytes own more n e l = ap (take n) e ∙ take_at own more n (sym l)

@@ -34,8 +34,8 @@ pub record IsWhole (t : Target) (bytes : List ℕ) : Type 0 where
   pub form : All (IsOf t) instructions
   pub bytes_are : bytes ≡ joined (map Code instructions)
 
--- code of which a listing tells: the places of the nodes and of the end, between them whole instructions, the addresses of the labels, whose words
--- are words of a text
+-- code that a listing describes: the places of the nodes and of the end, between them whole instructions, the addresses of the labels, whose words are words
+-- of a text
 pub record IsListable (t : Target) (code places : List ℕ) (l : LabelledNodes) (labels : List ℕ) : Type 0 where
   pub placed : Placed places (length l.nodes) (length code)
   pub whole : (i : ℕ) → i < length l.nodes → IsWhole t (bytes_between code places i)

@@ -17,7 +17,7 @@ labels_at i [] places = []
 labels_at i (word ∷ words) [] = []
 labels_at i (word ∷ words) (place ∷ places) = if is_at i place then (Label word ∷ labels_at i words places) else labels_at i words places
 
--- the bytes of node i, which stand between its place and the next
+-- the bytes of node i, which are between its place and the next
 abbrev pub bytes_between : List ℕ → List ℕ → ℕ → List ℕ
 bytes_between bytes places i = take (slice_index places (i + 1) - slice_index places i) (drop (slice_index places i) bytes)
 
@@ -29,7 +29,7 @@ entry_of (Some n) = NodeEntry n.line n.op ∷ []
 abbrev pub node_entries : Target → List ℕ → LabelledNodes → ℕ → List Entry
 node_entries t bytes l i = labels_at i l.words l.places ++ (entry_of (slice_get l.nodes i) ++ map Code (instructions t bytes))
 
--- so many nodes from node i on; the labels that are bound behind the last node come last
+-- this many nodes from node i on; the labels that are bound after the last node come last
 abbrev pub nodes_from : Target → List ℕ → List ℕ → LabelledNodes → ℕ → ℕ → List ℕ
 nodes_from t bytes places l i zero = rendered (code_base + slice_index places i) (labels_at i l.words l.places)
 nodes_from t bytes places l i (suc k) = rendered (code_base + slice_index places i) (node_entries t (bytes_between bytes places i) l i)

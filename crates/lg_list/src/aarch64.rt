@@ -53,7 +53,7 @@ fn indexed(base: u8, index: u8) -> Operand
     }
 }
 
-// the address that lies so many words from an address
+// the address that lies this many words from an address
 #[tactic(auto, unfolding(crate::specs::Aarch64::target))]
 fn target(at: u32, words: i32) -> Operand
     ensures { result ≡ target at words }
@@ -190,7 +190,7 @@ fn push_csinc(line: &mut Line, name: &[u8], rd: u8, rn: u8, rm: u8, cond: Cond)
     line.push(letters.as_slice());
 }
 
-/// Appends the text of an instruction at an address. The line has at most 52 bytes before and 274 behind.
+/// Appends the text of an instruction at an address. The line has at most 52 bytes before and 274 after.
 pub fn push_instruction(line: &mut Line, at: u32, instr: &Instr)
     requires { length line.old ≤ 52 }
     ensures text { line.new ≡ line.old ++ text_of at instr.now }

@@ -49,7 +49,7 @@ impl Instruction {
     }
 }
 
-/// The instruction of a target that the bytes begin with, and its length.
+/// Returns the instruction of a target that the bytes begin with, and its length.
 #[tactic(auto, unfolding(crate::specs::Instructions::front))]
 pub fn decode(target: Target, bytes: &[u8]) -> Option<(Instruction, u32)>
     ensures front { IfSome result (λ found. BeginsWith target bytes.now found.0 × (found.1 ≡ length (spelling found.0))) }

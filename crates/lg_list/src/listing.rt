@@ -24,7 +24,7 @@ fn write_label<O: Sink>(at: u32, word: &[u8], out: &mut O) -> Result<(), SinkFau
     write_parts(out, &[line.as_slice(), b" ", word, b":\n"])
 }
 
-// The nodes of code, where each stands in it, and the addresses of its labels.
+// The nodes of code, where each is in it, and the addresses of its labels.
 #[derive(Clone, Copy)]
 struct Nodes<'a> {
     list: &'a NodeList,
@@ -32,7 +32,7 @@ struct Nodes<'a> {
     labels: &'a LabelAddresses,
 }
 
-// Writes the labels that are bound at a node, or behind the last.
+// Writes the labels that are bound at a node, or after the last.
 fn write_labels<O: Sink>(nodes: Nodes<'_>, index: u32, out: &mut O) -> Result<(), SinkFault>
     requires index { index ≤ length nodes.list.now.nodes }
     requires addressed { AreAddressed nodes.list.now.places nodes.places.now.items nodes.labels.now }
@@ -81,7 +81,7 @@ fn write_instructions<O: Sink>(
     Ok(())
 }
 
-// The bytes of a node.
+// Returns the bytes of a node.
 fn node_bytes<'a>(code: &'a CodeBytes, places: &Places, index: u32) -> &'a [u8]
     requires index { index + 1 < 2 ^ 32 }
     requires places { (nodes : ℕ) × (index < nodes) × Placed places.now.items nodes (length code.now.items) }
@@ -93,7 +93,7 @@ fn node_bytes<'a>(code: &'a CodeBytes, places: &Places, index: u32) -> &'a [u8]
     &code.as_slice()[start..end]
 }
 
-// The address of a node, or of the end.
+// Returns the address of a node, or of the end.
 fn node_address(places: &Places, index: u32) -> u32
     requires places { (nodes : ℕ) × (len : ℕ) × (index ≤ nodes) × Placed places.now.items nodes len }
     ensures address { result ≡ code_base + slice_index places.now.items index }
@@ -102,7 +102,7 @@ fn node_address(places: &Places, index: u32) -> u32
     CODE_BASE_WORD + places.get(index)
 }
 
-// Writes the lines of a node, whose bytes stand from an address on, each in this line.
+// Writes the lines of a node, whose bytes begin at an address, each in this line.
 fn write_node<O: Sink>(
     target: Target,
     nodes: Nodes<'_>,

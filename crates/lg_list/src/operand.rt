@@ -147,7 +147,7 @@ impl Line {
         self.push_hex(&address.to_be_bytes());
     }
 
-    // Appends an operand behind what stands before it.
+    // Appends an operand after what is before it.
     #[inline(always)]
     fn push_behind(&mut self, before: &[u8], operand: Operand)
         requires before { length before.now ≤ 2 }
@@ -159,7 +159,7 @@ impl Line {
         self.push_operand(operand);
     }
 
-    // Appends operands, each behind a comma but the first, which these bytes stand before.
+    // Appends operands, each after a comma but the first, which these bytes are before.
     fn push_operands(&mut self, before: &[u8], operands: &[Operand])
         requires before { length before.now ≤ 2 }
         requires room { length self.old + 51 * length operands.now ≤ 288 }
@@ -175,7 +175,7 @@ impl Line {
         }
     }
 
-    // Appends operands, each behind a comma. Up to two are written without a call.
+    // Appends operands, each after a comma. Up to two are written without a call.
     #[inline(always)]
     fn push_more(&mut self, operands: &[Operand])
         requires room { length self.old + 51 * length operands.now ≤ 288 }
@@ -193,8 +193,8 @@ impl Line {
         }
     }
 
-    /// Appends the text of an instruction: its name and its operands. Each operand adds at most 51 bytes with what stands before it, and the line
-    /// has at most 288 bytes behind. Up to three, as most instructions have, are written without a call.
+    /// Appends the text of an instruction: its name and its operands. Each operand adds at most 51 bytes with what is before it, and the line has at most 288
+    /// bytes after. Up to three, as most instructions have, are written without a call.
     #[inline(always)]
     pub fn push_text(&mut self, name: &[u8], operands: &[Operand])
         requires { length self.old + length name.now + 51 * length operands.now ≤ 288 }

@@ -31,7 +31,7 @@ fn memory(base: u8, displacement: i32) -> Operand
     }
 }
 
-// Whether the number is a displacement from the register: `jalr` and loads.
+// Returns whether the number is a displacement from the register: `jalr` and loads.
 fn is_access(op: ImmOp) -> bool
     ensures { result ≡ is_access op }
 {
@@ -48,7 +48,7 @@ fn is_access(op: ImmOp) -> bool
     )
 }
 
-// The operands of an instruction with a number.
+// Returns the operands of an instruction with a number.
 fn imm_operands(op: ImmOp, rd: u8, rs1: u8, imm: i32) -> Operands
     ensures { listed result ≡ imm_operands op rd rs1 imm }
 {
@@ -59,7 +59,7 @@ fn imm_operands(op: ImmOp, rd: u8, rs1: u8, imm: i32) -> Operands
     }
 }
 
-// The operands of an instruction at an address.
+// Returns the operands of an instruction at an address.
 fn operands(at: u32, instr: &Instr) -> Operands
     ensures { listed result ≡ operands at instr.now }
 {
@@ -84,7 +84,7 @@ fn operands(at: u32, instr: &Instr) -> Operands
     }
 }
 
-/// Appends the text of an instruction at an address. The line has at most 52 bytes before and 272 behind.
+/// Appends the text of an instruction at an address. The line has at most 52 bytes before and 272 after.
 pub fn push_instruction(line: &mut Line, at: u32, instr: &Instr)
     requires { length line.old ≤ 52 }
     ensures text { line.new ≡ line.old ++ text_of at instr.now }

@@ -58,7 +58,7 @@ pub head_is : (points : List Point) (to n : ℕ) → IsHead points to n (last_be
 head_is points to zero = rw (last_none points to) record { below = omega arith; jumps = λ i g. absurd (cc); none = λ j le lt. absurd (omega arith) }
 head_is points to (suc n) = rw (last_on points to n) (head_step points to n (last_before points to n) (is_to to (point_at points n).jumps) refl (head_is points to n))
 
--- a point that jumps is not behind the last
+-- a point that jumps is not after the last
 pub jumps_past : (points : List Point) (i k : ℕ) → length points ≤ i → (point_at points i).jumps ≡ Some k → ⊥
 jumps_past points i k le e =
     let d : (point_at points i).jumps ≡ None = ap (λ (p : Point). p.jumps) (get_or_past points i no_point le) in
@@ -130,7 +130,7 @@ module _ (points : List Point) (count n : ℕ) (heads : List (Option ℕ)) (earl
       }
 
 -- ---- along a chain
--- the points at or behind this one that jump to a point have these registers
+-- the points at or after this one that jump to a point have these registers
 pub record IsPassing (points : List Point) (to : ℕ) (set : RegSet) (s : State) (next : Option ℕ) : Type 0 where
   pub from : ℕ
   pub few : from ≤ length points
@@ -179,7 +179,7 @@ passed_all points to set s next p none i jumps =
     (λ (more : p.from ≤ i). p.passed i more jumps)
     (cases_lt i p.from)
 
--- ---- points of which none jumps
+-- ---- points, none of which jumps
 none_of : (o : Option ℕ) → is_none o ≡ true → o ≡ None
 none_of None e = refl
 none_of (Some k) e = cc

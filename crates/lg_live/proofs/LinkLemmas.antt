@@ -1,4 +1,4 @@
--- What is wanted at the points of a text is what is needed at its nodes.
+-- What is required at the points of a text is what is needed at its nodes.
 use Rattle.std.proofs.Common.{◌≡◌, ◌↔◌, inl, inr, ⊎_elim, ℕ, ◌+◌, ◌*◌, ◌<◌, ◌≤◌, Bool, true, false, List, Option, Some, None, refl, sym, ap, ◌∙◌, length, get_or, arith}
 use Rattle.std.specs.Prelude.{slice_get, not, ◌&&◌, nat_lt, if◌then◌else◌}
 use Rattle.std.proofs.lemmas.Bool.{cases_lt, and_parts, not-true}
@@ -75,7 +75,7 @@ pub record IsNeededAtGate (feeding : Op → Bool) (l : LabelledNodes) (s : TextS
   pub behind : p < node
   pub needed : IsNeededBy feeding l s r node
 
--- what it is for a register to be wanted at a point
+-- what it is for a register to be required at a point
 pub record IsMeant (feeding : Op → Bool) (l : LabelledNodes) (s : TextShape) (r : Reg) (i : ℕ) : Type 0 where
   pub node : i < length l.nodes → IsNeededBy feeding l s r i
   pub gates : (p : ℕ) → i ≡ gate l p → IsNeededAtGate feeding l s r p
@@ -89,7 +89,7 @@ module _ (feeding : Op → Bool) (l : LabelledNodes) (s : TextShape) (points : L
   point_here : (i : ℕ) (n : Node) → slice_get l.nodes i ≡ Some n → IsPoint feeding l s i n (point_at points i)
   point_here i n h = are.each i n (point_at points i) h (slice_get-get_or points i no_point (let lt = slice_get_within l.nodes i n h in omega (arith, lt, are.count)))
 
-  -- ---- what is wanted is needed
+  -- ---- what is required is needed
   gate_case : (r : Reg) (i k : ℕ) (n : Node) → slice_get l.nodes i ≡ Some n → IsMeant feeding l s r k → (b : Bool) → gathers_by (way_of n.op) ≡ b → (o : Option ℕ) → home l.nodes i ≡ o → gate_of l b o ≡ Some k → IsNeededBehind feeding l s r i
   gate_case r i k n h m b g None e f = absurd (cc)
   gate_case r i k n h m false g (Some p) e f = absurd (cc)
@@ -124,7 +124,7 @@ module _ (feeding : Op → Bool) (l : LabelledNodes) (s : TextShape) (points : L
       let parts = and_parts (is_read n r) (feeding n.op) (sym ((point_here i n h).feeds r) ∙ f) in
       need.read_for r q i b.next n h parts.0 (sym ((point_here i n h).writes q) ∙ w) b.successor b.needed
 
-  -- a gate stands behind the nodes
+  -- a gate is after the nodes
   gate_high : (i k : ℕ) (o : Option ℕ) (marked : Bool) → join_of l o k marked ≡ Some i → length l.nodes ≤ i
   gate_high i k None marked e = absurd (cc)
   gate_high i k (Some p) marked e = by (marked && nat_lt p k) e
@@ -188,7 +188,7 @@ module _ (feeding : Op → Bool) (l : LabelledNodes) (s : TextShape) (points : L
       (λ (le : length l.nodes ≤ k). absurd (joins_past points k i (omega (arith, le, are.count)) e))
       (cases_lt k (length l.nodes))
 
-  -- ---- what is needed is wanted
+  -- ---- what is needed is required
   module _ (r : Reg) (i k : ℕ) (n : Node) (h : slice_get l.nodes i ≡ Some n) (lt : k < length l.nodes) (d : IsWanted points r k) where
     falls_on : (w : Way) → way_of n.op ≡ w → falls_by w ≡ true → IsNext l i k → IsWantedBehind points r i
     falls_on w e f g = record {

@@ -42,7 +42,7 @@ live_behind_of l s r i = (
 abbrev pub IsBehind : List Point → RegSet → ℕ → Type 0
 IsBehind points set i = (r : Reg) → (has set r ≡ true) ↔ IsWantedBehind points r i
 
--- the sets behind the first points
+-- the sets after the first points
 pub record AreBehind (points : List Point) (sets : List RegSet) (count : ℕ) : Type 0 where
   pub many : length sets ≡ count
   pub each : (i : ℕ) (set : RegSet) → slice_get sets i ≡ Some set → IsBehind points set i

@@ -236,7 +236,7 @@ pub on_ok_two : {T E A B C : Type 0} (r : Result T E) → OnOk r A → OnOk r B 
 on_ok_two (Ok x) a b f = f a b
 on_ok_two (Err e) a b f = tt
 
--- the registers of a point have come to those that join it, to the one before it and to those that jump to it
+-- the registers of a point have reached those that join it, to the one before it and to those that jump to it
 pub spread_all : (points : List Point) (to : ℕ) (set : RegSet) (a b c : State) → Grows a b → Grows b c
     → ((i : ℕ) → (point_at points to).joins ≡ Some i → HasPassed points set a i)
     → ((i : ℕ) → (point_at points i).falls ≡ true → to ≡ i + 1 → HasPassed points set b i)

@@ -17,7 +17,7 @@ use Rattle.lg_live.specs.Searches.{State, IsQueued, IsSound, AreWantedAt, HasPas
 use Rattle.lg_live.proofs.ChainLemmas.{bound, IsHead, head_is, jumps_past}
 use Rattle.lg_live.proofs.SearchLemmas.{get_appended, get_pushed, zero_set, passes_none, past_reads_none, none_at}
 
--- ---- points that nothing leads to from behind
+-- ---- points that nothing later leads to
 pub unmet_jumps : (points : List Point) (to : ℕ) (head : Option ℕ) → head ≡ last_before points to (length points) → bound head ≤ to → (i : ℕ) → to ≤ i → (point_at points i).jumps ≡ Some to → ⊥
 unmet_jumps points to head e low i le jump =
     let h : IsHead points to (length points) head = subst (IsHead points to (length points)) (sym e) (head_is points to (length points)) in
@@ -105,7 +105,7 @@ module _ (points : List Point) (count p : ℕ) (s : State) (new : RegSet) (queue
       (w.joined k i join))
       (cases_eq k p)
 
-  -- what is wanted at another point has been passed on to this one
+  -- what is required at another point has been passed on to this one
   passed_here : (k : ℕ) → k ≢ p → IsStep points p k → HasPassed points (set_at (slice_set s.sets p new) k) (settled_state s p new queue) p
   passed_here k n step r a =
       let old : passes (point_at points p) (has (set_at s.sets k)) r ≡ true = ap (λ (x : RegSet). passes (point_at points p) (has x) r) (sym (there k n)) ∙ a in
@@ -180,7 +180,7 @@ settled_by points count p s fall jump both new queue w lt in_both in_new fell ju
     (or_cases (has (point_at points p).reads r) (has both r) (sym (in_new r) ∙ h)))
     within kept met
 
--- a point is queued behind others
+-- a point is queued after others
 pub queued_more : (queue : List ℕ) (p k : ℕ) → IsQueued queue 0 k → IsQueued (queue ++ p ∷ []) 0 k
 queued_more queue p k q = record { place = q.place; behind = omega arith; here = get_appended queue (p ∷ []) q.place k q.here }
 

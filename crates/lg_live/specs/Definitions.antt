@@ -19,7 +19,7 @@ defines (op.Retval ty) = true
 defines (op.Getarg ty) = true
 defines o = false
 
--- the operations whose reads count only where what they write is wanted: none for what is live, the definitions for what is needed
+-- the operations whose reads count only where what they write is required: none for what is live, the definitions for what is needed
 abbrev pub feeding : Sought → Op → Bool
 feeding sought.Live o = false
 feeding sought.Needed o = defines o

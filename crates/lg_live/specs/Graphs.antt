@@ -9,7 +9,7 @@ use Rattle.lg_live.specs.declared.point.Point.{Point}
 abbrev pub no_point : Point
 no_point = record { reads = record { 0 = 0 }; feeds = record { 0 = 0 }; writes = record { 0 = 0 }; falls = false; jumps = None; joins = None }
 
--- a point; those behind the last only join others
+-- a point; those after the last only join others
 abbrev pub point_at : List Point → ℕ → Point
 point_at points i = slice_index_or points i no_point
 
@@ -19,8 +19,8 @@ pub data IsArc (points : List Point) : ℕ → ℕ → Type 0 where
   jumps : (i k : ℕ) → (point_at points i).jumps ≡ Some k → IsArc points i k
   joins : (i k : ℕ) → (point_at points k).joins ≡ Some i → IsArc points i k
 
--- a register is wanted at a point where that point reads it; where a register that the point makes of it is wanted behind the point; and where it is
--- wanted behind the point, which does not write it
+-- a register is required at a point where that point reads it; where a register that the point makes of it is required after the point; and where it is
+-- required after the point, which does not write it
 pub data IsWanted (points : List Point) : Reg → ℕ → Type 0 where
   read_here : (r : Reg) (i : ℕ) → has (point_at points i).reads r ≡ true → IsWanted points r i
   read_for : (r q : Reg) (i k : ℕ) → has (point_at points i).feeds r ≡ true → has (point_at points i).writes q ≡ true → IsArc points i k
@@ -38,20 +38,20 @@ pub record AreWithin (points : List Point) (count : ℕ) : Type 0 where
 abbrev pub any_register : (Reg → Bool) → Bool
 any_register f = f R0 || (f R1 || (f R2 || (f V0 || (f V1 || f V2))))
 
--- which registers are wanted before a point, where these are behind it, besides those that it reads in any case
+-- which registers are required before a point, where these are after it, besides those that it reads in any case
 abbrev pub passes : Point → (Reg → Bool) → Reg → Bool
 passes p set r = (set r && not (has p.writes r)) || (has p.feeds r && any_register (λ q. set q && has p.writes q))
 
 abbrev pub set_at : List RegSet → ℕ → RegSet
 set_at sets i = slice_index_or sets i (record { 0 = 0 })
 
--- the registers that are wanted at each point
+-- the registers that are required at each point
 pub record AreWanted (points : List Point) (count : ℕ) (sets : List RegSet) : Type 0 where
   pub all : length sets ≡ count
   pub sound : (i : ℕ) (r : Reg) → has (set_at sets i) r ≡ true → IsWanted points r i
   pub complete : (i : ℕ) (r : Reg) → IsWanted points r i → has (set_at sets i) r ≡ true
 
--- a register is wanted at a point to which one leads by falling or jumping
+-- a register is required at a point to which one leads by falling or jumping
 pub record IsWantedBehind (points : List Point) (r : Reg) (i : ℕ) : Type 0 where
   pub next : ℕ
   pub way : (((point_at points i).falls ≡ true) × (next ≡ i + 1)) ⊎ ((point_at points i).jumps ≡ Some next)

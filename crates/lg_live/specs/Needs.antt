@@ -1,4 +1,4 @@
--- When a register is needed: its word can come to a node that is no definition.
+-- When a register is needed: its word can reach a node that is no definition.
 use Rattle.std.specs.Prelude.{◌≡◌, ◌↔◌, ℕ, Bool, true, false, List, Some, length, slice_get}
 use Rattle.lg_op.specs.declared.node.Node.{Node}
 use Rattle.lg_op.specs.declared.op.Op.{Op}
@@ -19,11 +19,11 @@ pub data IsNeededBy (feeding : Op → Bool) (l : LabelledNodes) (s : TextShape) 
   kept_to : (r : Reg) (i k : ℕ) (n : Node) → slice_get l.nodes i ≡ Some n → is_written n r ≡ false → IsSuccessor l s i k
       → IsNeededBy feeding l s r k → IsNeededBy feeding l s r i
 
--- a register is needed where its word can come to a node that is no definition
+-- a register is needed where its word can reach a node that is no definition
 abbrev pub IsNeeded : LabelledNodes → TextShape → Reg → ℕ → Type 0
 IsNeeded l s r i = IsNeededBy defines l s r i
 
--- it is needed behind a node where it is needed before some successor
+-- it is needed after a node where it is needed before some successor
 pub record IsNeededBehind (feeding : Op → Bool) (l : LabelledNodes) (s : TextShape) (r : Reg) (i : ℕ) : Type 0 where
   pub next : ℕ
   pub successor : IsSuccessor l s i next

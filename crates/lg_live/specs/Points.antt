@@ -1,4 +1,4 @@
--- The points of a text: its nodes, and behind them, for the function that begins at node p, a gate at p behind the last node, through
+-- The points of a text: its nodes, and after them, for the function that begins at node p, a gate at p after the last node, through
 -- which its jumps to taken labels go.
 use Rattle.std.specs.Prelude.{◌≡◌, ◌↔◌, ◌⊎◌, ℕ, ◌+◌, ◌<◌, nat_lt, Bool, true, false, not, ◌&&◌, if◌then◌else◌, List, Option, Some, None, length, slice_get, slice_index_or}
 use Rattle.lg_op.specs.declared.operand.Reg.{Reg}
@@ -27,7 +27,7 @@ abbrev pub gathers_by : Way → Bool
 gathers_by Taken = true
 gathers_by w = false
 
--- the node at which a place is, where it is one of so many
+-- the node at which a place is, where it is one of n
 abbrev pub node_within : ℕ → Option Place → Option ℕ
 node_within count (Some (place.Node k)) = if nat_lt k count then Some k else None
 node_within count o = None

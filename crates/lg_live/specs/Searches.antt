@@ -16,7 +16,7 @@ pub record State : Type 0 where
 abbrev pub state_of : Search → State
 state_of s = record { sets = s.sets.items; queue = s.queue.items }
 
--- a point stands in a queue at this place or behind it
+-- a point is in a queue at this place or after it
 pub record IsQueued (queue : List ℕ) (from point : ℕ) : Type 0 where
   pub place : ℕ
   pub behind : from ≤ place
@@ -36,15 +36,15 @@ pub record Grows (a b : State) : Type 0 where
   pub weight : weight b ≤ weight a
   pub within : All (λ k. k < length a.sets) a.queue → All (λ k. k < length a.sets) b.queue
 
--- only registers that are wanted are in the sets
+-- only registers that are required are in the sets
 abbrev pub IsSound : List Point → State → Type 0
 IsSound points s = (i : ℕ) (r : Reg) → has (set_at s.sets i) r ≡ true → IsWanted points r i
 
--- these registers are wanted at a point
+-- these registers are required at a point
 abbrev pub AreWantedAt : List Point → RegSet → ℕ → Type 0
 AreWantedAt points set i = (r : Reg) → has set r ≡ true → IsWanted points r i
 
--- where only wanted registers are in the sets, and these are wanted at a point, only wanted ones are in these sets
+-- where only required registers are in the sets, and these are required at a point, only required ones are in these sets
 abbrev pub StaysSound : List Point → RegSet → ℕ → State → State → Type 0
 StaysSound points more point a b = IsSound points a → AreWantedAt points more point → IsSound points b
 
@@ -56,7 +56,7 @@ HasPassed points set s i = (r : Reg) → passes (point_at points i) (has set) r 
 abbrev pub HasSpread : List Point → ℕ → RegSet → State → Type 0
 HasSpread points k set s = (i : ℕ) → IsArc points i k → HasPassed points set s i
 
--- a search that looks at the points of its queue from this place on: what is wanted at the others has been passed on
+-- a search that looks at the points of its queue from this place on: what is required at the others has been passed on
 pub record IsSearching (points : List Point) (count from : ℕ) (s : State) : Type 0 where
   pub all : length s.sets ≡ count
   pub sound : IsSound points s
@@ -77,8 +77,8 @@ pub record IsUnmet (points : List Point) (k : ℕ) : Type 0 where
 abbrev pub IsEmptyAt : State → ℕ → Type 0
 IsEmptyAt s k = (r : Reg) → has (set_at s.sets k) r ≡ false
 
--- a search that went from the last point back to this one: what is wanted at each has been passed on to those, from this one on, that fall or jump to it,
--- and it is queued where others may want it
+-- a search that went from the last point back to this one: what is required at each has been passed on to those, from this one on, that fall or jump to it,
+-- and it is queued where others may require it
 pub record IsSwept (points : List Point) (count from : ℕ) (s : State) : Type 0 where
   pub all : length s.sets ≡ count
   pub sound : IsSound points s

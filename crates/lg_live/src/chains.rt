@@ -33,21 +33,21 @@ fn link(last: &mut [Option<usize>], to: Option<usize>, index: usize) -> Option<u
     }
 }
 
-// Whether no point jumps.
+// Returns whether no point jumps.
 fn none_jumps(points: &[Point]) -> bool
     ensures { result ≡ list_all (λ p. is_none p.jumps) points.now }
 {
     points.iter().all(|point| point.jumps.point().is_none())
 }
 
-/// What a table has of a point.
+/// Returns what a table has of a point.
 pub fn entry(table: &[Option<usize>], index: usize) -> Option<usize>
     ensures { result ≡ slice_index_or table.now index None }
 {
     table.get(index).copied().flatten()
 }
 
-// The chains of these points, which are all below this number, point by point.
+// Returns the chains of these points, which are all below this number, point by point.
 fn linked(alloc: Global, points: &[Point], count: usize) -> Result<Chains, OutOfMemory>
     requires { AreWithin points.now count }
     ensures { IfOk result (λ chains. AreChains points.now count chains) }
@@ -61,7 +61,7 @@ fn linked(alloc: Global, points: &[Point], count: usize) -> Result<Chains, OutOf
 }
 
 impl Chains {
-    /// The chains of these points, which are all below this number.
+    /// Returns the chains of these points, which are all below this number.
     #[tactic(auto, using(crate::proofs::ChainLemmas::no_chains))]
     pub fn of(alloc: Global, points: &[Point], count: usize) -> Result<Chains, OutOfMemory>
         requires { AreWithin points.now count }

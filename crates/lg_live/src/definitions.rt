@@ -11,11 +11,11 @@ use lg_node::{BinaryOp, Op, PlainOp};
 pub enum Sought {
     /// The registers that are live: some node may read them.
     Live,
-    /// The registers that are needed: their words can come to a node that is no definition.
+    /// The registers that are needed: their words can reach a node that is no definition.
     Needed,
 }
 
-// Whether an operation sets the carry.
+// Returns whether an operation sets the carry.
 fn sets_carry(op: BinaryOp) -> bool
     ensures { result ≡ sets_carry op }
 {
@@ -25,7 +25,7 @@ fn sets_carry(op: BinaryOp) -> bool
     )
 }
 
-/// Whether an operation only makes words: it may go where none of the registers that it writes is needed.
+/// Returns whether an operation only makes words: it may go where none of the registers that it writes is needed.
 pub fn defines(op: Op) -> bool
     ensures { result ≡ defines op }
 {
@@ -41,7 +41,7 @@ pub fn defines(op: Op) -> bool
     }
 }
 
-/// Whether what an operation reads counts only where what it writes is wanted.
+/// Returns whether what an operation reads counts only where what it writes is required.
 pub fn feeding(sought: Sought, op: Op) -> bool
     ensures { result ≡ feeding sought op }
 {

@@ -1,5 +1,5 @@
-//! Which registers a node reads and writes, which are live before and behind each node, and which are needed before each: those whose
-//! words can come to a node that does more than to make words.
+//! Which registers a node reads and writes, which are live before and after each node, and which are needed before each: those whose
+//! words can reach a node that does more than to make words.
 #![tactic(auto)]
 
 mod chains;

@@ -32,7 +32,7 @@ impl Link {
         Link { word: 0 }
     }
 
-    /// A point.
+    /// Returns a point.
     pub fn to(point: usize) -> Link
         requires { point < 2 ^ 63 }
         ensures { result ≡ Some point }
@@ -40,7 +40,7 @@ impl Link {
         Link { word: point + 1 }
     }
 
-    /// The point, if there is one.
+    /// Returns the point, if there is one.
     pub fn point(self) -> Option<usize>
         ensures { result ≡ self }
     {

@@ -1,4 +1,4 @@
-// The registers that are live before and behind each node.
+// The registers that are live before and after each node.
 
 ghost use Rattle.std.specs.Prelude.{◌≡◌, ◌↔◌, ◌<◌, ◌≤◌, true, Some, length, slice_get, IfOk};
 ghost use Rattle.lg_op.specs.declared.operand.Reg.{Reg};
@@ -18,7 +18,7 @@ use lg_node::{NodeList, Shape};
 use std::alloc::Global;
 use std::marker::Model;
 
-/// Which registers are live before and behind each node of a text.
+/// Which registers are live before and after each node of a text.
 #[derive(Drop)]
 pub struct Live {
     before: Vec<RegSet>,
@@ -33,7 +33,7 @@ impl Model for Live {
     ghost view = { λ live. record { before = live.before.items; behind = live.after.items } };
 }
 
-// The registers that are wanted at the points to which a point falls or jumps.
+// Returns the registers that are required at the points to which a point falls or jumps.
 fn behind(points: &[Point], sets: &[RegSet], index: usize) -> RegSet
     requires point { index < length points.now }
     requires within { AreWithin points.now (length sets.now) }
@@ -52,7 +52,7 @@ fn behind(points: &[Point], sets: &[RegSet], index: usize) -> RegSet
 }
 
 impl Live {
-    /// The registers that are live in nodes of this shape.
+    /// Returns the registers that are live in nodes of this shape.
     pub fn of(alloc: Global, nodes: &NodeList, shape: &Shape) -> Result<Live, OutOfMemory>
         requires { IsShapeOf nodes.now shape.now }
         ensures { IfOk result (λ live. AreLive nodes.now shape.now live) }
@@ -67,7 +67,7 @@ impl Live {
         Ok(Live { before, after })
     }
 
-    /// The registers that are live before a node, which is below the number of nodes.
+    /// Returns the registers that are live before a node, which is below the number of nodes.
     pub fn before(&self, index: u32) -> RegSet
         requires { index < length self.now.before }
         ensures { Some result ≡ slice_get self.now.before index }
@@ -75,7 +75,7 @@ impl Live {
         self.before[index as usize]
     }
 
-    /// The registers that are live behind a node, which is below the number of nodes.
+    /// Returns the registers that are live after a node, which is below the number of nodes.
     pub fn after(&self, index: u32) -> RegSet
         requires { index < length self.now.behind }
         ensures { Some result ≡ slice_get self.now.behind index }

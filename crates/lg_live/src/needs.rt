@@ -12,8 +12,8 @@ use lg_base::OutOfMemory;
 use lg_node::{NodeList, Shape};
 use std::alloc::Global;
 
-/// Of each node the registers that are needed before it: those whose words can come to a node that is no definition. Time goes by the number of
-/// nodes and labels.
+/// Of each node the registers that are needed before it: those whose words can reach a node that is no definition. Time goes by the number of nodes and
+/// labels.
 pub fn needs(alloc: Global, nodes: &NodeList, shape: &Shape) -> Result<Vec<RegSet>, OutOfMemory>
     requires { IsShapeOf nodes.now shape.now }
     ensures { IfOk result (λ sets. AreNeeded nodes.now shape.now sets.items) }

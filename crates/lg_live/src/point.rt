@@ -14,7 +14,7 @@ use crate::sets::{difference, meets, union};
 pub struct Point {
     /// The registers that it reads.
     pub reads: RegSet,
-    /// The registers that it reads for those that it writes: only where one of these is wanted.
+    /// The registers that it reads for those that it writes: only where one of these is required.
     pub feeds: RegSet,
     /// The registers that it writes.
     pub writes: RegSet,
@@ -26,7 +26,7 @@ pub struct Point {
     pub joins: Link,
 }
 
-// What a point wants for these registers that are wanted behind it.
+// What a point requires for these registers that are required after it.
 fn wanted_for(point: &Point, set: RegSet) -> RegSet
     ensures { (r : Reg) → has result r ≡ (has point.now.feeds r && any_register (λ q. has set q && has point.now.writes q)) }
 {
@@ -37,7 +37,7 @@ fn wanted_for(point: &Point, set: RegSet) -> RegSet
     }
 }
 
-/// The registers that are wanted before a point, where those of a set are behind it. Those behind the last point pass all.
+/// Returns the registers that are required before a point, where those of a set are after it. Those after the last point pass all.
 pub fn passing(points: &[Point], index: usize, set: RegSet) -> RegSet
     ensures { (r : Reg) → has result r ≡ passes (point_at points.now index) (has set) r }
 {
@@ -47,7 +47,7 @@ pub fn passing(points: &[Point], index: usize, set: RegSet) -> RegSet
     }
 }
 
-/// The registers that a point reads.
+/// Returns the registers that a point reads.
 pub fn reads(points: &[Point], index: usize) -> RegSet
     ensures { (r : Reg) → has result r ≡ has (point_at points.now index).reads r }
 {
@@ -57,7 +57,7 @@ pub fn reads(points: &[Point], index: usize) -> RegSet
     }
 }
 
-/// Whether a point leads to the next one.
+/// Returns whether a point leads to the next one.
 pub fn falls(points: &[Point], index: usize) -> bool
     ensures { result ≡ (point_at points.now index).falls }
 {
@@ -67,7 +67,7 @@ pub fn falls(points: &[Point], index: usize) -> bool
     }
 }
 
-/// The point to which a point jumps, if it does.
+/// Returns the point to which a point jumps, if it does.
 pub fn jumps(points: &[Point], index: usize) -> Option<usize>
     ensures { result ≡ (point_at points.now index).jumps }
 {
@@ -77,7 +77,7 @@ pub fn jumps(points: &[Point], index: usize) -> Option<usize>
     }
 }
 
-/// The point that joins a point, if there is one.
+/// Returns the point that joins a point, if there is one.
 pub fn joins(points: &[Point], index: usize) -> Option<usize>
     ensures { result ≡ (point_at points.now index).joins }
 {
@@ -87,7 +87,7 @@ pub fn joins(points: &[Point], index: usize) -> Option<usize>
     }
 }
 
-/// The point before a point, where it leads there.
+/// Returns the point before a point, where it leads there.
 pub fn fallen(points: &[Point], to: usize) -> Option<usize>
     ensures arc { (i : ℕ) → result ≡ Some i → ((point_at points.now i).falls ≡ true) × (to ≡ i + 1) }
     ensures all { (i : ℕ) → (point_at points.now i).falls ≡ true → to ≡ i + 1 → result ≡ Some i }

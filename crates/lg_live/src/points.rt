@@ -1,4 +1,4 @@
-// The points of a text: its nodes, and behind them a gate for each function, through which its jumps to taken labels go.
+// The points of a text: its nodes, and after them a gate for each function, through which its jumps to taken labels go.
 
 ghost use Rattle.std.specs.Prelude.{◌≡◌, ◌↔◌, ◌<◌, ◌+◌, ◌⊎◌, ℕ, true, Some, length, slice_get, slice_index_or, IfOk, false, not, ◌&&◌};
 ghost use Rattle.lg_op.specs.declared.operand.Reg.{Reg};
@@ -18,7 +18,7 @@ use lg_base::OutOfMemory;
 use lg_node::{ControlOp, Label, LastOperand, Node, NodeList, Op, Operand, Place, PlainOp, Shape};
 use std::alloc::Global;
 
-// Whether an operation goes on to the next node.
+// Returns whether an operation goes on to the next node.
 fn falls(op: Op) -> bool
     ensures { result ≡ falls_by (way_of op) }
 {
@@ -28,7 +28,7 @@ fn falls(op: Op) -> bool
     )
 }
 
-// Whether an operation goes to the label that is its first operand.
+// Returns whether an operation goes to the label that is its first operand.
 fn aims(op: Op) -> bool
     ensures { result ≡ aims_by (way_of op) }
 {
@@ -38,14 +38,14 @@ fn aims(op: Op) -> bool
     )
 }
 
-// Whether an operation goes to any taken label.
+// Returns whether an operation goes to any taken label.
 fn gathers(op: Op) -> bool
     ensures { result ≡ gathers_by (way_of op) }
 {
     matches!(op, Op::Control(ControlOp::Jmp, LastOperand::Register))
 }
 
-// The node at which a place is.
+// Returns the node at which a place is.
 fn node_within(place: Option<Place>, count: u32) -> Link
     ensures { result ≡ node_within count place }
 {
@@ -55,7 +55,7 @@ fn node_within(place: Option<Place>, count: u32) -> Link
     }
 }
 
-// The place of the label that is the first operand.
+// Returns the place of the label that is the first operand.
 fn target_of(nodes: &NodeList, operands: &[Operand]) -> Option<Place>
     ensures { result ≡ target_of nodes.now.places operands.now }
 {
@@ -65,7 +65,7 @@ fn target_of(nodes: &NodeList, operands: &[Operand]) -> Option<Place>
     }
 }
 
-// The `prolog` of the function of a node.
+// Returns the `prolog` of the function of a node.
 fn home(nodes: &NodeList, shape: &Shape, index: u32) -> Option<u32>
     requires { IsShapeOf nodes.now shape.now }
     ensures { result ≡ home nodes.now.nodes index }
@@ -109,7 +109,7 @@ fn marked(alloc: Global, nodes: &NodeList, shape: &Shape) -> Result<Vec<bool>, O
     Ok(marks)
 }
 
-// The gate of the function of a node, where it is asked for.
+// Returns the gate of the function of a node, where it is asked for.
 #[tactic(auto, using(crate::proofs::PointLemmas::no_gate))]
 fn gate_of(nodes: &NodeList, shape: &Shape, index: u32, asked: bool) -> Link
     requires { IsShapeOf nodes.now shape.now }
@@ -136,7 +136,7 @@ fn jump_of(nodes: &NodeList, shape: &Shape, index: u32, node: &Node) -> Link
     }
 }
 
-// The gate through which jumps to taken labels come to a node.
+// Returns the gate through which jumps to taken labels reach a node.
 #[tactic(auto, using(crate::proofs::PointLemmas::no_join))]
 fn join_of(nodes: &NodeList, shape: &Shape, index: u32, marked: bool) -> Link
     requires { IsShapeOf nodes.now shape.now }
@@ -158,7 +158,7 @@ fn kept_where(holds: bool, set: RegSet) -> RegSet
     if holds { set } else { RegSet::none() }
 }
 
-// The point of a node.
+// Returns the point of a node.
 fn point(
     nodes: &NodeList,
     shape: &Shape,
@@ -184,7 +184,7 @@ fn point(
     }
 }
 
-/// The points of a text, where this is sought.
+/// Returns the points of a text, where this is sought.
 pub fn points_of(
     alloc: Global,
     nodes: &NodeList,

@@ -45,7 +45,7 @@ impl Flags for RegSet {
     }
 }
 
-// The bit of a register, and 0 for FP.
+// Returns the bit of a register, and 0 for FP.
 fn bit_of(reg: Reg) -> u8
     ensures { result ≡ bit_of reg }
 {
@@ -63,7 +63,7 @@ fn bit_of(reg: Reg) -> u8
 impl RegSet {
     ghost use Rattle.lg_live.specs.RegSets.{has, IsSmall};
 
-    /// The set without registers.
+    /// Returns the set without registers.
     pub fn none() -> RegSet
         ensures none { (r : Reg) → has result r ≡ false }
         ensures small { IsSmall result }
@@ -71,7 +71,7 @@ impl RegSet {
         RegSet(0)
     }
 
-    /// The set of all six registers.
+    /// Returns the set of all six registers.
     pub fn all() -> RegSet
         ensures all { (r : Reg) → has result r ≡ nat_lt (number_of r) 6 }
         ensures small { IsSmall result }
@@ -79,14 +79,14 @@ impl RegSet {
         RegSet(63)
     }
 
-    /// Whether a register is in the set. FP is in none.
+    /// Returns whether a register is in the set. FP is in none.
     pub fn has(self, reg: Reg) -> bool
         ensures { result ≡ has self reg }
     {
         self.0 & bit_of(reg) != 0
     }
 
-    /// The set with a register more. FP is in none.
+    /// Returns the set with a register more. FP is in none.
     pub fn with(self, reg: Reg) -> RegSet
         ensures more { (r : Reg) → has result r ≡ (has self r || is_same reg r) }
         ensures small { IsSmall self → IsSmall result }

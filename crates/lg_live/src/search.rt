@@ -1,4 +1,4 @@
-// The search for the registers that are wanted at each point.
+// The search for the registers that are required at each point.
 
 ghost use Rattle.std.specs.Prelude.{◌≡◌, ◌<◌, ◌≤◌, ◌+◌, ℕ, length, slice_get, Some, true, false, [], OnOk, IfOk, Ok};
 ghost use Rattle.lg_op.specs.declared.operand.Reg.{Reg};
@@ -17,7 +17,7 @@ use std::alloc::Global;
 /// The sets found so far, and the points whose sets grew, in that order.
 #[derive(Drop)]
 pub struct Search {
-    /// Of each point the registers that were found to be wanted there.
+    /// Of each point the registers that were found to be required there.
     pub sets: Vec<RegSet>,
     /// The points whose sets grew.
     pub queue: Vec<usize>,
@@ -154,7 +154,7 @@ fn wanted_by_jump(points: &[Point], sets: &[RegSet], index: usize) -> RegSet
     }
 }
 
-// Whether a gate leads to a point, or one from it on jumps to it.
+// Returns whether a gate leads to a point, or one from it on jumps to it.
 fn is_met(points: &[Point], chains: &Chains, index: usize) -> bool
     requires { (count : ℕ) × AreChains points.now count chains.now × (index < count) }
     ensures { result ≡ false → IsUnmet points.now index }
@@ -168,7 +168,7 @@ fn is_met(points: &[Point], chains: &Chains, index: usize) -> bool
     }
 }
 
-// Finds what is wanted at a point, by those behind it; and queues it where others may want that.
+// Finds what is required at a point, by those after it; and queues it where others may want that.
 fn settle(
     points: &[Point],
     chains: &Chains,
@@ -191,7 +191,7 @@ fn settle(
     Ok(())
 }
 
-// The search that has gone over all points once, from the last to the first.
+// Returns the search that has gone over all points once, from the last to the first.
 fn swept(
     alloc: Global,
     points: &[Point],
@@ -213,7 +213,7 @@ fn swept(
     Ok(search)
 }
 
-/// The registers that are wanted at each of so many points.
+/// Returns the registers that are required at each of n points.
 pub fn wanted(alloc: Global, points: &[Point], count: usize) -> Result<Vec<RegSet>, OutOfMemory>
     requires { AreWithin points.now count }
     ensures { IfOk result (λ sets. AreWanted points.now count sets.items) }

@@ -8,7 +8,7 @@ ghost use Rattle.lg_live.specs.Graphs.{any_register};
 use crate::reg_set::RegSet;
 use bitflags::Flags;
 
-/// The registers of two sets.
+/// Returns the registers of two sets.
 pub fn union(a: RegSet, b: RegSet) -> RegSet
     ensures registers { (r : Reg) → has result r ≡ (has a r || has b r) }
     ensures byte { result.0 < 256 }
@@ -17,14 +17,14 @@ pub fn union(a: RegSet, b: RegSet) -> RegSet
     a.union(b)
 }
 
-/// Whether two sets have a common register.
+/// Returns whether two sets have a common register.
 pub fn meets(a: RegSet, b: RegSet) -> bool
     ensures { result ≡ any_register (λ q. has a q && has b q) }
 {
     (a.bits() & b.bits()) % 64 != 0
 }
 
-/// The registers of a set that are not in another.
+/// Returns the registers of a set that are not in another.
 pub fn difference(a: RegSet, b: RegSet) -> RegSet
     ensures registers { (r : Reg) → has result r ≡ (has a r && not (has b r)) }
 {

@@ -19,7 +19,7 @@ pub enum Access {
     Write,
 }
 
-// Whether an operand of this form is for this access.
+// Returns whether an operand of this form is for this access.
 fn is_for(access: Access, form: Form) -> bool
     ensures { result ≡ is_for access form }
 {
@@ -57,7 +57,7 @@ fn named(access: Access, forms: &[Form], operands: &[Operand], found: RegSet) ->
     }
 }
 
-// Whether an operation calls.
+// Returns whether an operation calls.
 fn is_call(op: Op) -> bool
     ensures { result ≡ is_call op }
 {
@@ -75,7 +75,7 @@ fn with_register(found: RegSet, operand: Operand) -> RegSet
     }
 }
 
-// The registers that a node reads, by the forms of its operands.
+// Returns the registers that a node reads, by the forms of its operands.
 #[inline(never)]
 fn reads_by_forms(node: &Node) -> RegSet
     ensures registers { (r : Reg) → has result r ≡ is_read node.now r }
@@ -89,7 +89,7 @@ fn reads_by_forms(node: &Node) -> RegSet
     )
 }
 
-/// The registers of R0 to V2 that a node reads.
+/// Returns the registers of R0 to V2 that a node reads.
 #[inline(always)]
 pub fn reads(node: &Node) -> RegSet
     ensures registers { (r : Reg) → has result r ≡ is_read node.now r }
@@ -106,7 +106,7 @@ pub fn reads(node: &Node) -> RegSet
     }
 }
 
-// The registers that a node writes, by the forms of its operands.
+// Returns the registers that a node writes, by the forms of its operands.
 #[inline(never)]
 fn writes_by_forms(node: &Node) -> RegSet
     ensures registers { (r : Reg) → has result r ≡ is_written node.now r }
@@ -125,7 +125,7 @@ fn writes_by_forms(node: &Node) -> RegSet
     }
 }
 
-/// The registers of R0 to V2 that a node writes. A call writes R0, R1 and R2.
+/// Returns the registers of R0 to V2 that a node writes. A call writes R0, R1 and R2.
 #[inline(always)]
 pub fn writes(node: &Node) -> RegSet
     ensures registers { (r : Reg) → has result r ≡ is_written node.now r }
@@ -189,7 +189,7 @@ fn any_uses(nodes: &NodeList, index: u32) -> Uses
     }
 }
 
-/// What the node of an index reads and writes, which is below the number of nodes.
+/// Returns what the node of an index reads and writes, which is below the number of nodes.
 #[inline(always)]
 pub fn uses_at(nodes: &NodeList, index: u32) -> Uses
     requires { index < length nodes.now.nodes }

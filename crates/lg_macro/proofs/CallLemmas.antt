@@ -8,7 +8,7 @@ use Rattle.lg_macro.specs.declared.pieces.PieceKind.{PieceKind}
 use Rattle.lg_lex.specs.Bytes.{further}
 use Rattle.lg_macro.specs.Arguments.{opening, closing, depth_behind, in_argument, gathered, solid_by, solid_len, stripped, with_feeds, with_feed}
 
--- the pieces from a place on are the one there and those behind it
+-- the pieces from a place on are the one there and those after it
 pub drop_piece : (pieces : List Piece) (at : ℕ) → at < length pieces → drop at pieces ≡ piece_at pieces at ∷ drop (at + 1) pieces
 drop_piece pieces at h = rw add-one (drop-cons pieces at no_piece h)
 

@@ -46,7 +46,7 @@ among_append (p ∷ a) b = let e = among_append a b in omega (arith, e)
 pub among_parts : (n : ℕ) (pieces : List Piece) → feeds_among (take n pieces) + feeds_among (drop n pieces) ≡ feeds_among pieces
 among_parts n pieces = sym (among_append (take n pieces) (drop n pieces)) ∙ ap feeds_among (take-append-drop n pieces)
 
--- the pieces from a place on are those up to a further place and those behind it
+-- the pieces from a place on are those up to a further place and those after it
 pub among_between : (at end : ℕ) (pieces : List Piece) → at ≤ end → feeds_among (drop at pieces) ≡ feeds_among (take (end - at) (drop at pieces)) + feeds_among (drop end pieces)
 among_between at end pieces h =
     let parts = among_parts (end - at) (drop at pieces) in

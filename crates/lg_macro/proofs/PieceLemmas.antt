@@ -21,7 +21,7 @@ within bytes more a b le h =
 same_piece : (bytes more : List ℕ) (p : Part) → LiesIn bytes p → piece_of (bytes ++ more) p ≡ piece_of bytes p
 same_piece bytes more p h = ap (λ (t : List ℕ). record { kind = p.kind; text = t; line = p.line; frozen = p.frozen }) (within bytes more p.start p.end h.0 h.1)
 
--- pieces mean the same with more bytes behind
+-- pieces mean the same with more bytes after
 pub same_pieces : (bytes more : List ℕ) (parts : List Part) → All (LiesIn bytes) parts → map (piece_of (bytes ++ more)) parts ≡ map (piece_of bytes) parts
 same_pieces bytes more [] h = refl
 same_pieces bytes more (p ∷ parts) h =
@@ -36,7 +36,7 @@ still_inside bytes more parts h = λ k d lt. further bytes more (get_or parts k 
 behind : (bytes text : List ℕ) → take (length (bytes ++ text) - length bytes) (drop (length bytes) (bytes ++ text)) ≡ text
 behind bytes text = rw (drop-append_seam bytes text, length-append bytes text) (let e : length bytes + length text - length bytes ≡ length text = omega arith in rw e (take_all (length text) text (omega arith)))
 
--- one more piece, whose text lies behind all others
+-- one more piece, whose text lies after all others
 pub pushed : (bytes text new : List ℕ) (parts after : List Part) (pieces : List Piece) (part : Part) → All (LiesIn bytes) parts → map (piece_of bytes) parts ≡ pieces → new ≡ bytes ++ text → after ≡ parts ++ part ∷ [] → part.start ≡ length bytes → part.end ≡ length new → map (piece_of new) after ≡ pieces ++ record { kind = part.kind; text = text; line = part.line; frozen = part.frozen } ∷ []
 pushed bytes text new parts after pieces part all is more grown start end =
     rw (more, grown, map_push (piece_of (bytes ++ text)) parts part, same_pieces bytes text parts all, is, start, end, more)

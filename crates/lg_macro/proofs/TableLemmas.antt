@@ -78,7 +78,7 @@ module _ {K M : Type 0} (bytes_of : K → List ℕ) (name_of : M → List ℕ) w
       → position (λ k. bytes_eq q (bytes_of k)) ks ≡ position (λ m. bytes_eq q (name_of m)) ms
   same-place q ks ms e = sym (held bytes_of q ks) ∙ ap (position (bytes_eq q)) e ∙ held name_of q ms
 
-  -- where one is taken out of both, or put behind both, they stay so
+  -- where one is taken out of both, or put after both, they stay so
   pub one-out : (i : ℕ) (ks : List K) (ms : List M) → map bytes_of ks ≡ map name_of ms → map bytes_of (remove ks i) ≡ map name_of (remove ms i)
   one-out i ks ms e = removed bytes_of ks ∙ ap (λ l. remove l i) e ∙ sym (removed name_of ms)
     where

@@ -11,11 +11,11 @@ unfoldable pub opening : List Piece → Option ℕ
 opening [] = None
 opening (p ∷ rest) = if is_white p.kind then further 1 (opening rest) else (if is_byte 40 p.kind then Some 1 else None)
 
--- the open parentheses behind a piece
+-- the open parentheses after a piece
 abbrev pub depth_behind : ℕ → PieceKind → ℕ
 depth_behind depth kind = if is_byte 40 kind then depth + 1 else (if is_byte 41 kind then depth - 1 else depth)
 
--- the pieces before the ) that closes the call, where so many parentheses are open besides
+-- the pieces before the ) that closes the call, where this many parentheses are open besides
 unfoldable pub closing : ℕ → List Piece → Option ℕ
 closing depth [] = None
 closing depth (p ∷ rest) = if is_byte 41 p.kind && (depth == 0) then Some 0 else further 1 (closing (depth_behind depth p.kind) rest)
@@ -37,7 +37,7 @@ solid_len (p ∷ rest) = solid_by p (solid_len rest)
 unfoldable pub stripped : List Piece → List Piece
 stripped pieces = let solid = take (solid_len pieces) pieces in drop (prefix_len (λ p. is_white p.kind) solid) solid
 
--- the arguments, parted by the commas outside parentheses; those that are done, and the pieces of the next one so far, stand in front
+-- the arguments, parted by the commas outside parentheses; those that are done, and the pieces of the next one so far, are in front
 unfoldable pub gathered : ℕ → ℕ → List (List Piece) → List Piece → List Piece → List (List Piece)
 gathered line depth done now [] = done ++ stripped now ∷ []
 gathered line depth done now (p ∷ rest) =
@@ -68,6 +68,6 @@ with_feed line given b = if b == 10 then given ++ feed line ∷ [] else given
 abbrev pub with_feeds_of : ℕ → List Piece → Piece → List Piece
 with_feeds_of line given p = fold (with_feed line) given p.text
 
--- what is given, and behind it each line feed of pieces
+-- what is given, and after it each line feed of pieces
 unfoldable pub with_feeds : ℕ → List Piece → List Piece → List Piece
 with_feeds line given pieces = fold (with_feeds_of line) given pieces

@@ -8,12 +8,12 @@ use Rattle.lg_macro.specs.Pieces.{Piece}
 use Rattle.lg_macro.specs.declared.pieces.PieceKind.{PieceKind}
 use Rattle.lg_macro.specs.declared.pieces.PieceKind.TheVariants.{Comment, Quoted, Word, Number, Feed, Byte}
 
--- how many bytes come to the first */, that included, or to the end
+-- how many bytes there are up to the first */, that included, or to the end
 unfoldable pub block_len : List ℕ → ℕ
 block_len [] = 0
 block_len (b ∷ bytes) = if (b == 42) && (slice_index bytes 0 == 47) then 2 else 1 + block_len bytes
 
--- how many bytes of a string or character come to its closing mark, that included, or to the end of its line; escaped says that a \ stands before
+-- how many bytes of a string or character there are up to its closing mark, that included, or to the end of its line; escaped says that a \ is before
 unfoldable pub quoted_len : ℕ → Bool → List ℕ → ℕ
 quoted_len mark escaped [] = 0
 quoted_len mark escaped (b ∷ bytes) =
@@ -34,7 +34,7 @@ front_of bytes = let b = slice_index bytes 0 in
     else (if is_ascii_digit b then (Number, prefix_len is_word_byte bytes)
     else (if b == 10 then (Feed, 1) else (Byte b, 1)))))
 
--- bytes cut into pieces of one line, at most so many
+-- bytes cut into pieces of one line, at most this many
 unfoldable pub cut_in : ℕ → ℕ → List ℕ → List Piece
 cut_in zero line bytes = []
 cut_in (suc k) line [] = []

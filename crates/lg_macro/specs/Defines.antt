@@ -70,12 +70,12 @@ plain = record { parameter = None; glued = false; glues = false }
 abbrev pub failed : Body → Body
 failed b = record b { good = false }
 
--- a # is the first half of a ##, or the second: then what stands before it is glued, and the white space before it goes
+-- a # is the first half of a ##, or the second: then what is before it is glued, and the white space before it goes
 abbrev pub at_sign : Body → Body
 at_sign b = if not b.half then record b { half = true }
     else (if length b.marks == 0 then failed b else record b { marks = glue_last b.marks; gap = []; glued = true; half = false })
 
--- white space waits, and behind a ## it goes
+-- white space waits, and after a ## it goes
 abbrev pub at_white : Body → Piece → Body
 at_white b p = if b.glued then b else record b { gap = b.gap ++ p ∷ [] }
 
@@ -92,7 +92,7 @@ mark_of names b p = record { parameter = parameter_by names p.text p.kind; glued
 abbrev pub with_plain : List Mark → Piece → List Mark
 with_plain marks p = marks ++ plain ∷ []
 
--- another piece comes behind the white space that waits
+-- another piece comes after the white space that waits
 abbrev pub at_solid : List (List ℕ) → Body → Piece → Body
 at_solid names b p = record b {
   pieces = (b.pieces ++ b.gap) ++ p ∷ [];
@@ -115,7 +115,7 @@ with_len n p = min (most + 1) (n + length p.text)
 abbrev pub size_of : List Piece → ℕ
 size_of pieces = fold with_len 0 pieces
 
--- a body ends well where no # and no ## stands at its end
+-- a body ends well where no # and no ## is at its end
 abbrev pub finished : List ℕ → Option ℕ → ℕ → Body → Option Macro
 finished name arity size b = if b.good && (not b.half && not b.glued)
     then Some (record { name = name; arity = arity; body = b.pieces; marks = b.marks; size = size }) else None
@@ -132,12 +132,12 @@ abbrev pub closed_at : List ℕ → List Piece → Option ℕ → Option Macro
 closed_at name pieces None = None
 closed_at name pieces (Some n) = option_and_then (with_parameters name (drop (3 + n) pieces)) (parameters_of (take n (drop 2 pieces)))
 
--- the macro of a name, by whether a ( stands directly behind it
+-- the macro of a name, by whether a ( is directly after it
 abbrev pub named_by : List Piece → Bool → Option Macro
 named_by pieces false = with_body (piece_at pieces 0).text None [] (stripped (drop 1 pieces))
 named_by pieces true = closed_at (piece_at pieces 0).text pieces (to_close (drop 2 pieces))
 
--- what stands behind #define, white space at its ends taken off: a name, a ( directly behind it and parameters, and a body
+-- what is after #define, white space at its ends taken off: a name, a ( directly after it and parameters, and a body
 abbrev pub written_by : List Piece → PieceKind → Option Macro
 written_by pieces Word = named_by pieces (is_byte 40 (piece_at pieces 1).kind)
 written_by pieces kind = None

@@ -32,7 +32,7 @@ most = 16777216
 abbrev pub counted : ℕ → Macro → ℕ → Result ℕ Refusal
 counted line m sum = if nat_lt most (sum + 1 + m.size) then refuse ExpandTooMuch line else Ok (sum + 1 + m.size)
 
--- a call that leaves a value, or refuses, as a definition says; where memory was wanted nothing is said
+-- a call that leaves a value, or refuses, as a definition says; where memory ran out nothing is said
 abbrev pub CountsAs : {A : Type 0} → Result (Unit {0}) Stop → A → Result A Refusal → Type 0
 CountsAs (Ok u) new read = read ≡ Ok new
 CountsAs (Err OutOfMemory) new read = Unit {0}

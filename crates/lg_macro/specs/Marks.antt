@@ -6,6 +6,6 @@ abbrev pub glued_behind : List Mark → Option Mark → List Mark
 glued_behind marks None = marks
 glued_behind marks (Some m) = take (length marks - 1) marks ++ record { parameter = m.parameter; glued = m.glued; glues = true } ∷ []
 
--- marks whose last one says that ## stands behind
+-- marks whose last one says that ## is after
 abbrev pub glue_last : List Mark → List Mark
 glue_last marks = glued_behind marks (slice_get marks (length marks - 1))

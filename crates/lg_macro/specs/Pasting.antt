@@ -3,7 +3,7 @@ use Rattle.std.specs.Prelude.{ℕ, List, [], ◌∷◌, ◌++◌}
 use Rattle.lg_macro.specs.Cutting.{cut}
 use Rattle.lg_macro.specs.Pieces.{Piece}
 
--- pieces and those that ## puts behind them: the last one and the first one are put together and cut anew. No pieces leave the others alone
+-- pieces and those that ## puts after them: the last one and the first one are put together and cut anew. No pieces leave the others alone
 unfoldable pub joined : ℕ → List Piece → List Piece → List Piece
 joined line [] part = part
 joined line (p ∷ now) [] = p ∷ now

@@ -4,7 +4,7 @@ use Rattle.std.specs.Int.{is_in_range}
 use Rattle.lg_macro.specs.declared.pieces.PieceKind.{PieceKind}
 use Rattle.lg_macro.specs.declared.pieces.PieceKind.TheVariants.{Comment, Word, Feed, Byte}
 
--- a piece: its kind, its bytes, the line that a fault there is told with, and whether it is frozen
+-- a piece: its kind, its bytes, the line that a fault there is reported with, and whether it is frozen
 pub record Piece : Type 0 where
   pub kind : PieceKind
   pub text : List ℕ

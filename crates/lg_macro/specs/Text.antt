@@ -14,7 +14,7 @@ abbrev pub is_number : PieceKind → Bool
 is_number Number = true
 is_number kind = false
 
--- what may stand before the # of a directive
+-- what may be before the # of a directive
 abbrev pub is_margin : PieceKind → Bool
 is_margin Comment = true
 is_margin (Byte b) = (b == 32) || (b == 9)
@@ -27,7 +27,7 @@ feeds_of text = count_by (λ b. b == 10) text
 abbrev pub feeds_in : List ℕ → List ℕ
 feeds_in text = filter (λ b. b == 10) text
 
--- the pieces of bytes that begin on a line, at most so many: each has the line of its first byte
+-- the pieces of bytes that begin on a line, at most this many: each has the line of its first byte
 unfoldable pub text_pieces : ℕ → ℕ → List ℕ → List Piece
 text_pieces zero line bytes = []
 text_pieces (suc k) line [] = []
@@ -50,12 +50,12 @@ unfoldable pub line_len : Bool → Bool → List Piece → ℕ
 line_len goes_on slash [] = 0
 line_len goes_on slash (p ∷ rest) = if is_feed p.kind && not (goes_on && slash) then 1 else 1 + line_len goes_on (ends_with_slash p) rest
 
--- whether a number comes next, but for spaces: behind a # that has only spaces and tabs before it this is a line marker
+-- whether a number comes next, but for spaces: after a # that has only spaces and tabs before it this is a line marker
 unfoldable pub marks_line : List Piece → Bool
 marks_line [] = false
 marks_line (p ∷ rest) = if is_byte 32 p.kind then marks_line rest else is_number p.kind
 
--- whether a piece is the # of a directive; fresh says that only spaces and tabs stand before it in its line
+-- whether a piece is the # of a directive; fresh says that only spaces and tabs are before it in its line
 abbrev pub begins_directive : Bool → Piece → List Piece → Bool
 begins_directive fresh p rest = is_byte 35 p.kind && not (fresh && marks_line rest)
 

@@ -13,7 +13,7 @@ use crate::spare::Spare;
 use lg_base::OutOfMemory;
 use std::alloc::Global;
 
-/// The pieces from a place to the `(` of a call, that included, where it comes next but for white space.
+/// Returns the pieces from a place to the `(` of a call, that included, where it comes next but for white space.
 pub fn opening(pieces: &Pieces, from: usize) -> Option<usize>
     requires { from ≤ length pieces.now }
     ensures value { result ≡ opening (drop from pieces.now) }
@@ -35,7 +35,7 @@ pub fn opening(pieces: &Pieces, from: usize) -> Option<usize>
     None
 }
 
-// The open parentheses behind a piece.
+// Returns the open parentheses after a piece.
 fn depth_behind(depth: usize, kind: PieceKind) -> usize
     requires { depth < 18446744073709551615 }
     ensures { result ≡ depth_behind depth kind }
@@ -49,14 +49,14 @@ fn depth_behind(depth: usize, kind: PieceKind) -> usize
     }
 }
 
-// Whether a byte stands outside the parentheses of a call's arguments.
+// Returns whether a byte is outside the parentheses of a call's arguments.
 fn ends(kind: PieceKind, byte: u8, depth: usize) -> bool
     ensures { result ≡ (is_byte byte kind && (depth == 0)) }
 {
     kind.is_byte(byte) && depth == 0
 }
 
-/// The pieces from a place to the `)` that closes a call, that not included.
+/// Returns the pieces from a place to the `)` that closes a call, that not included.
 pub fn closing(pieces: &Pieces, from: usize) -> Option<usize>
     requires { from ≤ length pieces.now }
     ensures value { result ≡ closing 0 (drop from pieces.now) }
@@ -87,7 +87,7 @@ fn push_in(now: &mut Pieces, pieces: &Pieces, at: usize, line: u32) -> Result<()
     }
 }
 
-// The pieces to the last that is no white space, that included.
+// Returns the pieces to the last that is no white space, that included.
 fn solid_len(pieces: &Pieces) -> usize
     ensures value { result ≡ solid_len pieces.now }
     ensures inside { result ≤ length pieces.now }
@@ -114,7 +114,7 @@ pub fn without_ends(spare: &mut Spare, pieces: Pieces) -> Result<Pieces, OutOfMe
     Ok(solid)
 }
 
-// The white space in front of the first so many pieces.
+// Returns the white space in front of the first n pieces.
 fn white_len(pieces: &Pieces, end: usize) -> usize
     requires { end ≤ length pieces.now }
     ensures value { result ≡ prefix_len (λ p. is_white p.kind) (take end pieces.now) }
@@ -170,7 +170,7 @@ pub(crate) fn gathered(
     Ok(done)
 }
 
-// Whether there is one argument, without a piece.
+// Returns whether there is one argument, without a piece.
 fn is_empty_list(arguments: &[Pieces]) -> bool
     ensures { result ≡ is_empty_list arguments.now }
 {

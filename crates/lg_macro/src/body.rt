@@ -13,8 +13,8 @@ use lg_base::OutOfMemory;
 use lg_base::layout::MOST_TEXT;
 use std::alloc::Global;
 
-/// A body as far as it was read: its pieces with their marks, the white space behind them that a `##` takes away, whether a `##` stands
-/// before the next piece, whether a `#` stands there that a further one makes a `##`, and whether all is well.
+/// A body as far as it was read: its pieces with their marks, the white space after them that a `##` takes away, whether a `##` is before the next piece,
+/// whether a `#` is there that a further one makes a `##`, and whether all is well.
 #[derive(Drop)]
 pub struct Body {
     pub pieces: Pieces,
@@ -39,14 +39,14 @@ fn no_body(alloc: Global) -> Body
     }
 }
 
-// The parameter that a word names.
+// Returns the parameter that a word names.
 fn place_of(names: &[PlainText], word: &[u8]) -> Option<usize>
     ensures { result ≡ place_of names.now word.now }
 {
     names.iter().position(|name| word == name.as_slice())
 }
 
-// The parameter that a piece is.
+// Returns the parameter that a piece is.
 fn parameter_of(names: &[PlainText], pieces: &Pieces, at: usize) -> Option<usize>
     requires { at < length pieces.now }
     ensures { result ≡ parameter_by names.now (piece_at pieces.now at).text (piece_at pieces.now at).kind }
@@ -149,7 +149,7 @@ fn take_piece(
     take_solid(body, names, pieces, at)
 }
 
-/// The body that pieces make.
+/// Returns the body that pieces make.
 pub(crate) fn body_of(
     alloc: Global,
     names: &[PlainText],
@@ -177,7 +177,7 @@ fn with_len(n: usize, pieces: &Pieces, at: usize) -> usize
     (n + len).min(MOST_TEXT + 1)
 }
 
-/// The bytes of pieces, as far as they matter: at most 16,777,217.
+/// Returns the bytes of pieces, as far as they matter: at most 16,777,217.
 pub(crate) fn size_of(pieces: &Pieces) -> usize
     ensures { result ≡ size_of pieces.now }
 {

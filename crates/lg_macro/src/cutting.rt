@@ -21,7 +21,7 @@ fn block_len(bytes: &[u8]) -> usize
     bytes.len()
 }
 
-// Whether a byte is this mark, and no \ stands before it.
+// Returns whether a byte is this mark, and no \ is before it.
 fn is_free(b: u8, mark: u8, escaped: bool) -> bool
     ensures { result ≡ ((b == mark) && not escaped) }
 {
@@ -45,7 +45,7 @@ fn quoted_len(mark: u8, bytes: &[u8]) -> usize
     bytes.len()
 }
 
-// The kind of the first piece, and its length.
+// Returns the kind of the first piece, and its length.
 #[tactic(auto, unfolding(crate::specs::Cutting::front_of))]
 pub(crate) fn front_of(bytes: &[u8]) -> (PieceKind, usize)
     requires { 0 < length bytes.now }

@@ -17,7 +17,7 @@ use crate::spare::Spare;
 use lg_base::OutOfMemory;
 use std::alloc::Global;
 
-// Whether a line feed comes first between two places.
+// Returns whether a line feed comes first between two places.
 #[tactic(auto, using(crate::proofs::DefineLemmas::first_between, crate::proofs::DefineLemmas::none_between))]
 fn feed_next(pieces: &Pieces, at: usize, end: usize) -> bool
     requires { end ≤ length pieces.now }
@@ -29,7 +29,7 @@ fn feed_next(pieces: &Pieces, at: usize, end: usize) -> bool
     false
 }
 
-// Whether a piece is a backslash directly before a line feed.
+// Returns whether a piece is a backslash directly before a line feed.
 fn is_splice(pieces: &Pieces, at: usize, end: usize) -> bool
     requires order { at < end }
     requires inside { end ≤ length pieces.now }
@@ -82,7 +82,7 @@ pub fn spliced(
     Ok(out)
 }
 
-// The pieces from a place to the first `)`.
+// Returns the pieces from a place to the first `)`.
 fn to_close(pieces: &Pieces, from: usize) -> Option<usize>
     requires { from ≤ length pieces.now }
     ensures value { result ≡ to_close (drop from pieces.now) }
@@ -99,7 +99,7 @@ fn to_close(pieces: &Pieces, from: usize) -> Option<usize>
     None
 }
 
-/// The text of pieces that are one word; None of others.
+/// Returns the text of pieces that are one word; None of others.
 pub fn one_word(alloc: Global, pieces: &Pieces) -> Result<Option<PlainText>, OutOfMemory>
     ensures { IfOk result (λ r. r ≡ one_word pieces.now) }
 {
@@ -115,7 +115,7 @@ pub fn one_word(alloc: Global, pieces: &Pieces) -> Result<Option<PlainText>, Out
     }
 }
 
-// Whether a name is among names.
+// Returns whether a name is among names.
 fn is_among(names: &[PlainText], word: &[u8]) -> bool
     ensures { result ≡ list_any (bytes_eq word.now) names.now }
 {
@@ -141,7 +141,7 @@ fn names_of(alloc: Global, groups: &[Pieces]) -> Result<Option<Vec<PlainText>>, 
     Ok(Some(names))
 }
 
-// Whether there is one group, of white space alone.
+// Returns whether there is one group, of white space alone.
 fn no_group(groups: &[Pieces]) -> bool
     ensures { result ≡ no_group groups.now }
 {
@@ -151,7 +151,7 @@ fn no_group(groups: &[Pieces]) -> bool
     }
 }
 
-// The parameters between two places.
+// Returns the parameters between two places.
 fn parameters_of(
     alloc: Global,
     pieces: &Pieces,
@@ -213,7 +213,7 @@ fn with_pieces(
     Ok(finished(name, arity, size_of(behind), body))
 }
 
-// A macro whose body stands from a place on.
+// A macro whose body begins at a place.
 fn with_body(
     alloc: Global,
     arity: Option<usize>,
@@ -244,7 +244,7 @@ fn with_parameters(alloc: Global, pieces: &Pieces) -> Result<Option<Macro>, OutO
     }
 }
 
-// The macro of a name, by whether parameters follow it.
+// Returns the macro of a name, by whether parameters follow it.
 fn named(alloc: Global, pieces: &Pieces) -> Result<Option<Macro>, OutOfMemory>
     requires { 0 < length pieces.now }
     ensures { IfOk result (λ r. r ≡ named_by pieces.now (is_byte 40 (piece_at pieces.now 1).kind)) }
@@ -256,7 +256,7 @@ fn named(alloc: Global, pieces: &Pieces) -> Result<Option<Macro>, OutOfMemory>
     }
 }
 
-/// The macro that the pieces behind `#define` write, white space at their ends taken off.
+/// Returns the macro that the pieces after `#define` write, white space at their ends taken off.
 pub fn written(alloc: Global, pieces: &Pieces) -> Result<Option<Macro>, OutOfMemory>
     ensures { IfOk result (λ r. r ≡ written pieces.now) }
 {

@@ -7,35 +7,35 @@ ghost use Rattle.lg_macro.specs.Text.{is_comment, is_margin, is_number};
 use crate::pieces::{PieceKind, Pieces};
 
 impl PieceKind {
-    /// Whether it is a line feed.
+    /// Returns whether it is a line feed.
     pub fn is_feed(self) -> bool
         ensures { result ≡ is_feed self }
     {
         matches!(self, PieceKind::Feed)
     }
 
-    /// Whether it is a comment.
+    /// Returns whether it is a comment.
     pub fn is_comment(self) -> bool
         ensures { result ≡ is_comment self }
     {
         matches!(self, PieceKind::Comment)
     }
 
-    /// Whether it is a number.
+    /// Returns whether it is a number.
     pub fn is_number(self) -> bool
         ensures { result ≡ is_number self }
     {
         matches!(self, PieceKind::Number)
     }
 
-    /// Whether it is a word.
+    /// Returns whether it is a word.
     pub fn is_word(self) -> bool
         ensures { result ≡ is_word self }
     {
         matches!(self, PieceKind::Word)
     }
 
-    /// Whether it may stand before the `#` of a directive.
+    /// Returns whether it may be before the `#` of a directive.
     pub fn is_margin(self) -> bool
         ensures { result ≡ is_margin self }
     {
@@ -48,7 +48,7 @@ impl PieceKind {
 }
 
 impl Pieces {
-    /// Whether a single byte stands at a place.
+    /// Returns whether a single byte is at a place.
     pub fn is_byte_at(&self, at: usize, byte: u8) -> bool
         ensures value { result ≡ is_byte byte (piece_at self.now at).kind }
         ensures inside { result ≡ true → at < length self.now }
@@ -59,7 +59,7 @@ impl Pieces {
         false
     }
 
-    /// Whether a word stands at a place.
+    /// Returns whether a word is at a place.
     pub fn is_word_at(&self, at: usize) -> bool
         ensures value { result ≡ is_word (piece_at self.now at).kind }
         ensures inside { result ≡ true → at < length self.now }

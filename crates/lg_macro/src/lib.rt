@@ -1,4 +1,4 @@
-//! The pieces of a text, and macros: how a `#define` writes them, their table, the arguments of a call, and what stands for a body.
+//! The pieces of a text, and macros: how a `#define` writes them, their table, the arguments of a call, and what replaces a body.
 #![tactic(auto)]
 
 pub mod arguments;

@@ -22,9 +22,9 @@ use std::marker::Model;
 pub struct Mark {
     /// The number of the parameter that it is.
     pub parameter: Option<usize>,
-    /// Whether `##` stands before it.
+    /// Whether `##` is before it.
     pub glued: bool,
-    /// Whether `##` stands behind it.
+    /// Whether `##` is after it.
     pub glues: bool,
 }
 
@@ -75,7 +75,7 @@ impl Table {
         }
     }
 
-    /// The place of the macro of a name.
+    /// Returns the place of the macro of a name.
     pub fn place_in(&self, name: &[u8]) -> Option<usize>
         ensures value { result ≡ place_in self.now name.now }
         ensures inside { IfSome result (λ place. place < length self.now) }
@@ -83,7 +83,7 @@ impl Table {
         self.names.get_index_of(name)
     }
 
-    /// The macro at a place.
+    /// Returns the macro at a place.
     pub fn at(&self, place: usize) -> &Macro
         requires { place < length self.now }
         ensures { slice_get self.now place ≡ Some result.now }
@@ -102,7 +102,7 @@ impl Table {
         }
     }
 
-    // Adds a macro whose name, of which this is a copy, no macro has.
+    // Adds a macro whose name (this is a copy of it) no macro has.
     fn add(&mut self, name: Vec<u8>, entry: Macro) -> Result<(), OutOfMemory>
         requires name { name.items ≡ entry.name }
         requires new { place_in self.old entry.name ≡ None }
@@ -146,14 +146,14 @@ pub struct Work {
 /// The most bytes of the lists that calls hold at once: no definition bounds them.
 pub const MOST_HELD: usize = 67_108_864;
 
-/// A fault.
+/// Returns a fault.
 pub fn refused(kind: RefusalKind, line: u32) -> Stop
     ensures { result ≡ Refused (record { kind = kind; line = line }) }
 {
     Stop::Refused(Refusal { kind, line })
 }
 
-/// Whether a macro is hidden.
+/// Returns whether a macro is hidden.
 pub fn is_hidden(hidden: &[usize], place: usize) -> bool
     ensures { result ≡ list_any (λ h. h == place) hidden.now }
 {

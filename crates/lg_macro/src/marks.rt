@@ -33,14 +33,14 @@ impl Marks {
         }
     }
 
-    /// How many there are.
+    /// Returns how many there are.
     pub fn len(&self) -> usize
         ensures { result ≡ length self.now }
     {
         self.marks.as_slice().len()
     }
 
-    /// The mark at a place.
+    /// Returns the mark at a place.
     pub fn at(&self, place: usize) -> Mark
         requires { place < length self.now }
         ensures { result ≡ slice_index_or self.now place result }
@@ -56,7 +56,7 @@ impl Marks {
         Ok(())
     }
 
-    /// Says of the last piece that `##` stands behind it.
+    /// Says of the last piece that `##` is after it.
     pub fn glue_last(&mut self) -> Result<(), OutOfMemory>
         ensures { OnOk result (self.new ≡ glue_last self.old) }
     {

@@ -55,7 +55,7 @@ impl Model for Pieces {
 }
 
 impl PieceKind {
-    /// Whether a piece of this kind is white space or a comment.
+    /// Returns whether a piece of this kind is white space or a comment.
     pub fn is_white(self) -> bool
         ensures { result ≡ is_white self }
     {
@@ -66,7 +66,7 @@ impl PieceKind {
         }
     }
 
-    /// Whether it is this single byte.
+    /// Returns whether it is this single byte.
     pub fn is_byte(self, byte: u8) -> bool
         ensures { result ≡ is_byte byte self }
     {
@@ -110,21 +110,21 @@ impl Pieces {
         self.parts.clear();
     }
 
-    /// How many there are.
+    /// Returns how many there are.
     pub fn len(&self) -> usize
         ensures { result ≡ length self.now }
     {
         self.parts.len()
     }
 
-    /// The sum of the bytes of all pieces, below 134,217,728.
+    /// Returns the sum of the bytes of all pieces, below 134,217,728.
     pub fn size(&self) -> usize
         ensures { result ≡ sum_by text_length self.now }
     {
         self.bytes.as_slice().len()
     }
 
-    /// The kind of the piece at a place.
+    /// Returns the kind of the piece at a place.
     pub fn kind(&self, at: usize) -> PieceKind
         requires { at < length self.now }
         ensures { result ≡ (piece_at self.now at).kind }
@@ -132,7 +132,7 @@ impl Pieces {
         self.parts[at].kind
     }
 
-    /// The line of the piece at a place.
+    /// Returns the line of the piece at a place.
     pub fn line(&self, at: usize) -> u32
         requires { at < length self.now }
         ensures { result ≡ (piece_at self.now at).line }
@@ -140,7 +140,7 @@ impl Pieces {
         self.parts[at].line
     }
 
-    /// The text of the piece at a place.
+    /// Returns the text of the piece at a place.
     pub fn text(&self, at: usize) -> &[u8]
         requires { at < length self.now }
         ensures { result.now ≡ (piece_at self.now at).text }
@@ -149,14 +149,14 @@ impl Pieces {
         &self.bytes[part.start..part.end]
     }
 
-    // Whether a list is so long that it is not made longer: no definition bounds the lists that a call holds in between.
+    // Returns whether a list is so long that it is not made longer: no definition bounds the lists that a call holds in between.
     fn is_long(&self, text: &[u8]) -> bool {
         self.parts.len() >= MOST_PIECES
             || self.bytes.len() >= MOST_BYTES
             || text.len() >= MOST_BYTES
     }
 
-    /// Adds a piece. Memory is wanted too where there are 16,777,216 pieces or 67,108,864 bytes.
+    /// Adds a piece. Memory runs out too where there are 16,777,216 pieces or 67,108,864 bytes.
     pub fn push(
         &mut self,
         kind: PieceKind,
@@ -205,7 +205,7 @@ fn push_text(bytes: &mut Vec<u8>, text: &[u8]) -> Result<(), OutOfMemory>
 }
 
 impl Pieces {
-    /// Whether the piece at a place is frozen.
+    /// Returns whether the piece at a place is frozen.
     pub fn is_frozen(&self, at: usize) -> bool
         requires { at < length self.now }
         ensures { result ≡ (piece_at self.now at).frozen }

@@ -33,7 +33,7 @@ impl PlainText {
         }
     }
 
-    /// A copy of bytes. There is no room for more than a text may have.
+    /// Returns a copy of bytes. There is no room for more than a text may have.
     pub fn of(alloc: Global, text: &[u8]) -> Result<PlainText, OutOfMemory>
         ensures { IfOk result (λ r. r ≡ text.now) }
     {
@@ -44,7 +44,7 @@ impl PlainText {
         Ok(PlainText { bytes })
     }
 
-    /// The bytes.
+    /// Returns the bytes.
     pub fn as_slice(&self) -> &[u8]
         ensures value { result.now ≡ self.now }
         ensures short { length result.now ≤ 16777216 }
@@ -52,7 +52,7 @@ impl PlainText {
         self.bytes.as_slice()
     }
 
-    /// How many bytes there are.
+    /// Returns how many bytes there are.
     pub fn len(&self) -> usize
         ensures { result ≡ length self.now }
     {

@@ -14,7 +14,7 @@ use crate::spare::Spare;
 use lg_base::OutOfMemory;
 use std::alloc::Global;
 
-// Adds what a piece of a body stands for.
+// Adds what a piece of a body denotes.
 fn push_part(
     out: &mut Pieces,
     raw: &[Pieces],
@@ -46,7 +46,7 @@ fn push_argument(out: &mut Pieces, arguments: &[Pieces], n: usize) -> Result<(),
     Ok(())
 }
 
-// What a piece of a body stands for.
+// What a piece of a body denotes.
 fn stands(
     alloc: Global,
     raw: &[Pieces],
@@ -64,7 +64,7 @@ fn stands(
     Ok(part)
 }
 
-// One text and another behind it.
+// One text and another after it.
 fn glued(alloc: Global, first: &[u8], second: &[u8]) -> Result<Vec<u8>, OutOfMemory>
     ensures { IfOk result (λ r. r.items ≡ first.now ++ second.now) }
 {
@@ -73,7 +73,7 @@ fn glued(alloc: Global, first: &[u8], second: &[u8]) -> Result<Vec<u8>, OutOfMem
     Ok(text)
 }
 
-// Adds the pieces of one text and another behind it.
+// Adds the pieces of one text and another after it.
 fn push_glued(
     out: &mut Pieces,
     alloc: Global,
@@ -87,7 +87,7 @@ fn push_glued(
     push_cut(out, &text, line)
 }
 
-// Adds pieces, and others that `##` puts behind them, to none.
+// Adds pieces, and others that `##` puts after them, to none.
 fn push_joined(
     out: &mut Pieces,
     alloc: Global,
@@ -111,7 +111,7 @@ fn push_joined(
     out.append_between(part, 1, m)
 }
 
-// Pieces, and others that `##` puts behind them.
+// Pieces, and others that `##` puts after them.
 fn joined(alloc: Global, now: &Pieces, part: &Pieces, line: u32) -> Result<Pieces, OutOfMemory>
     ensures { IfOk result (λ r. r ≡ joined line now.now part.now) }
 {
@@ -120,7 +120,7 @@ fn joined(alloc: Global, now: &Pieces, part: &Pieces, line: u32) -> Result<Piece
     Ok(all)
 }
 
-// Whether `##` is before a piece of a body.
+// Returns whether `##` is before a piece of a body.
 fn is_glued(marks: &Marks, at: usize) -> bool
     ensures { result ≡ glued_at (drop at marks.now) }
 {
@@ -163,7 +163,7 @@ fn fill_one(
     Ok(())
 }
 
-/// The body of a macro with its arguments, as they stand and expanded.
+/// The body of a macro with its arguments, as they are and expanded.
 #[tactic(auto, unfolding(crate::specs::Substitution::substituted))]
 pub fn substituted(
     alloc: Global,

@@ -10,7 +10,7 @@ use lg_base::OutOfMemory;
 use lg_lex::bytes::{ahead, behind};
 use std::alloc::Global;
 
-// How many line feeds bytes have.
+// Returns how many line feeds bytes have.
 fn feeds_of(text: &[u8]) -> usize
     ensures value { result ≡ feeds_of text.now }
     ensures few { result ≤ length text.now }
@@ -18,7 +18,7 @@ fn feeds_of(text: &[u8]) -> usize
     text.iter().filter(|b| **b == b'\n').count()
 }
 
-// The line behind a piece that begins on a line.
+// Returns the line after a piece that begins on a line.
 fn line_behind(line: u32, piece: &[u8]) -> u32
     requires { line + length piece.now < 2 ^ 32 }
     ensures value { result ≡ line + feeds_of piece.now }
@@ -27,7 +27,7 @@ fn line_behind(line: u32, piece: &[u8]) -> u32
     line + feeds_of(piece) as u32
 }
 
-/// The pieces of a text, each with the line of its first byte.
+/// Returns the pieces of a text, each with the line of its first byte.
 pub fn text_pieces(alloc: Global, text: &[u8]) -> Result<Pieces, OutOfMemory>
     requires { length text.now ≤ 16777216 }
     ensures { IfOk result (λ r. r ≡ text_pieces (length text.now) 1 text.now) }
@@ -47,7 +47,7 @@ pub fn text_pieces(alloc: Global, text: &[u8]) -> Result<Pieces, OutOfMemory>
     Ok(out)
 }
 
-// Whether a piece ends with a backslash.
+// Returns whether a piece ends with a backslash.
 fn ends_with_slash(text: &[u8]) -> bool
     ensures { result ≡ (slice_index text.now (length text.now - 1) == 92) }
 {
@@ -57,7 +57,7 @@ fn ends_with_slash(text: &[u8]) -> bool
     }
 }
 
-// Whether a line ends with a piece.
+// Returns whether a line ends with a piece.
 fn ends_line(pieces: &Pieces, at: usize, goes_on: bool, slash: bool) -> bool
     requires { at < length pieces.now }
     ensures { result ≡ (is_feed (piece_at pieces.now at).kind && not (goes_on && slash)) }
@@ -65,7 +65,7 @@ fn ends_line(pieces: &Pieces, at: usize, goes_on: bool, slash: bool) -> bool
     pieces.kind(at).is_feed() && !(goes_on && slash)
 }
 
-/// How many pieces a line has, its line feed included. One that goes on does so over each line feed with a backslash directly before it.
+/// Returns how many pieces a line has, its line feed included. One that goes on does so over each line feed with a backslash directly before it.
 pub fn line_len(pieces: &Pieces, from: usize, goes_on: bool) -> usize
     requires { from < length pieces.now }
     ensures value { result ≡ line_len goes_on false (drop from pieces.now) }
@@ -85,7 +85,7 @@ pub fn line_len(pieces: &Pieces, from: usize, goes_on: bool) -> usize
     n
 }
 
-// Whether a number comes next, but for spaces.
+// Returns whether a number comes next, but for spaces.
 fn marks_line(pieces: &Pieces, from: usize) -> bool
     requires { from ≤ length pieces.now }
     ensures { result ≡ marks_line (drop from pieces.now) }
@@ -102,7 +102,7 @@ fn marks_line(pieces: &Pieces, from: usize) -> bool
     false
 }
 
-// Whether a piece is the `#` of a directive.
+// Returns whether a piece is the `#` of a directive.
 fn begins_directive(pieces: &Pieces, at: usize, fresh: bool) -> bool
     requires { at < length pieces.now }
     ensures { result ≡ begins_directive fresh (piece_at pieces.now at) (drop (at + 1) pieces.now) }
@@ -111,14 +111,14 @@ fn begins_directive(pieces: &Pieces, at: usize, fresh: bool) -> bool
     pieces.kind(at).is_byte(b'#') && !(fresh && marks_line(pieces, at + 1))
 }
 
-// Whether only spaces and tabs stand before what follows a piece.
+// Returns whether only spaces and tabs are before what follows a piece.
 fn still_fresh(fresh: bool, kind: PieceKind) -> bool
     ensures { result ≡ (fresh && not (is_comment kind)) }
 {
     fresh && !kind.is_comment()
 }
 
-/// The pieces before the `#` of a directive, where the line that begins at a place is one.
+/// Returns the pieces before the `#` of a directive, where the line that begins at a place is one.
 pub fn mark_in(pieces: &Pieces, from: usize) -> Option<usize>
     requires { from ≤ length pieces.now }
     ensures value { result ≡ mark_in true (drop from pieces.now) }

@@ -19,7 +19,7 @@ next_address places k o e =
     ∙ ap (map plain_address) (take-suc places k o lt ∙ ap (λ p. take k places ++ p ∷ []) here)
     ∙ map-append plain_address (take k places) (o ∷ [])
 
--- the first so many labels are bound within the text
+-- the first n labels are bound within the text
 abbrev pub AreWithinAmong : LabelledNodes → ℕ → Type 0
 AreWithinAmong l labels = (x i : ℕ) → x < labels → IsBound l x (place.Node i) → i ≤ length l.nodes
 

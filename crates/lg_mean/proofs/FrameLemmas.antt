@@ -19,7 +19,7 @@ or_cases false c h = inr h
 inside : (lo n a : ℕ) → within lo n a ≡ true → (lo ≤ a) × (a < lo + n)
 inside lo n a h = (grind arith, grind arith)
 
--- the locals of the frames behind the top one lie above its call
+-- the locals of the frames after the top one lie above its call
 pub stacked_above : (f : Frame) (fs : List Frame) (a : ℕ) → AreStacked f fs → in_any_locals fs a ≡ true → f.sp ≤ a
 stacked_above f [] a h e = cc
 stacked_above f (g ∷ fs) a h e =

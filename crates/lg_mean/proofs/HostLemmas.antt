@@ -13,7 +13,7 @@ use Rattle.lg_host.specs.declared.host_end.HostEnd.TheVariants as end
 use Rattle.lg_cells.specs.Cells.{within}
 use Rattle.lg_meaning.specs.States.{Frame, in_any_locals, is_part}
 
--- the mark behind a call, if there is one
+-- the mark after a call, if there is one
 abbrev pub AllowsMark : ℕ → Host → Type 0
 AllowsMark k (Gives v changes k' bytes) = (k ≤ k') × (k' ≤ heap_end)
 AllowsMark k (Exits n) = Unit {0}
@@ -85,7 +85,7 @@ part_raised d g k k' frames low rise = fun_ext (λ a. by (within 0x20000000 d a)
         or_true false = refl
     by false false false r false l e f = rw e (or-false l)
 
--- the memory behind a call
+-- the memory after a call
 pub record IsLater (d g : ℕ) (frames : List Frame) (m' : Mem) : Type 0 where
   pub room : m'.room ≡ is_part d g m'.mark frames
   pub low : 0x30000000 ≤ m'.mark

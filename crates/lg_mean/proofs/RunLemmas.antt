@@ -26,12 +26,12 @@ Then runs k line (mean.Ended status) s out out' faults faults' = HasGoneOn runs 
 Then runs k line (mean.Undefined at) s out out' faults faults' = HasGoneOn runs k s out out' × IsUndefinedBehind runs k × (at ≡ line s)
 Then runs k line mean.WriteFault s out out' faults faults' = FailsToWrite runs k s out out' faults faults'
 
--- after no step the meaning stands at its start
+-- after no step the meaning is at its start
 pub starts : (l : LabelledNodes) (shape : TextShape) (addresses : List ℕ) (start : State) → mean_from l shape addresses start 0 ≡ run_at start []
 unfolding iter
 starts l shape addresses start = refl
 
--- a run that has come to its start has written nothing
+-- a run that is at its start has written nothing
 pub goes_at_once : (runs : ℕ → Run) (s : State) (out : Option (List ℕ)) → runs 0 ≡ run_at s [] → HasGoneOn runs 0 s out out
 goes_at_once runs s out e = record { bytes = []; stands = e; written = Appends-nil out }
 
@@ -63,7 +63,7 @@ then_says law l shape labels labels' start k line old new over answer answer' ou
 rose_since : (before mid now : ℕ) → before ≤ mid → Rose mid now → Rose before now
 rose_since before mid now le h = omega (arith, le, h)
 
--- ---- where the run has come to
+-- ---- how far the run has come
 module _ (runs : ℕ → Run) (line : State → ℕ) (k n most : ℕ) (s : State) (out out' : Option (List ℕ)) (faults faults' : ℕ) where
   pub ended : (status : ℕ) → n ≡ k + 1 → k < most → Then runs k line (mean.Ended status) s out out' faults faults' → ComesTo runs (runs_end.Ended status) n most s (line s) out out' faults faults'
   ended status e lt t = (omega (arith, e, lt), (k, e, t.0, t.1))
@@ -74,10 +74,10 @@ module _ (runs : ℕ → Run) (line : State → ℕ) (k n most : ℕ) (s : State
   pub faulted : (mid : ℕ) → faults ≤ mid → n ≡ k → k < most → Then runs k line mean.WriteFault s out out' mid faults' → ComesTo runs runs_end.WriteFault n most s (line s) out out' faults faults'
   faulted mid later e lt t = rw e (lt, record { bytes = t.bytes; stands = t.stands; next = t.next; more = t.more; goes = t.goes; part = t.part; short = t.short; written = t.written; rose = rose_since faults mid faults' later t.rose })
 
--- how many steps a machine counts behind a step
+-- how many steps a machine counts after a step
 pub counted : (over : Option MeanStep) (before after : ℕ) (answer answer' : MeanStep) → over ≡ None → answer ≡ answer' → IfNone over (after ≡ before + counts answer) → after ≡ before + counts answer'
 counted over before after answer answer' running is h = subst (λ (a : MeanStep). after ≡ before + counts a) is (subst (λ (o : Option MeanStep). IfNone o (after ≡ before + counts answer)) running h)
 
--- the answer that a machine repeats behind a step
+-- the answer that a machine repeats after a step
 pub running_on : (over over' : Option MeanStep) (answer answer' : MeanStep) → over ≡ None → answer ≡ answer' → IfNone over (over' ≡ over_of answer) → over' ≡ over_of answer'
 running_on over over' answer answer' running is h = subst (λ (a : MeanStep). over' ≡ over_of a) is (subst (λ (o : Option MeanStep). IfNone o (over' ≡ over_of answer)) running h)

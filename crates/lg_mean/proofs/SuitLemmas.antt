@@ -22,7 +22,7 @@ use Rattle.lg_meaning.specs.Fits.{RunsIn, IsTopOf, Fits}
 whole : (f : Function) → 272 + f.locals ≤ frame_of f
 whole f = omega arith
 
--- a node that may not stand outside of every function stands in one
+-- a node that may not be outside of every function is in one
 inside : (o : Option ℕ) (may : Bool) → may ≡ false → is_none o && not may ≡ false → (p : ℕ) × (o ≡ Some p)
 inside None may e h = absurd (by may e h)
   where
@@ -32,7 +32,7 @@ inside None may e h = absurd (by may e h)
 inside (Some p) may e h = (p, refl)
 
 module _ (l : LabelledNodes) (shape : TextShape) (w : IsWellShaped l) (s : State) (n : Node) (here : slice_get l.nodes s.at ≡ Some n) (fits : Fits l shape s) where
-  -- behind the `prolog` of its function
+  -- after the `prolog` of its function
   begun : (may : Bool) → may_stand_outside n.op (is_begun l.nodes s.at) ≡ false → is_prolog n.op ≡ false → HasBegun s
   begun may out other_op = by (inside (home l.nodes s.at) (may_stand_outside n.op (is_begun l.nodes s.at)) out (w.passes s.at n here).1.0)
     where

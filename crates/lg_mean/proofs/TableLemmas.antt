@@ -62,7 +62,7 @@ module _ (l : LabelledNodes) (shape : TextShape) (A : List ℕ) (hf : HasFunctio
   pub here : (k : ℕ) (g : Function) → function_here shape.functions k ≡ Some g → IsHere l k g
   here k g e = here_in k g (home l.nodes k) refl e
 
-  -- ---- a label that is taken and bound behind the `prolog` of a function
+  -- ---- a label that is taken and bound after the `prolog` of a function
   behind_none : (f : Function) → IsFunction l.nodes f → (k : ℕ) → function_here shape.functions k ≡ None → is_behind (Some f) k ≡ false
   behind_none f i k e = by (is_behind (Some f) k) refl
     where

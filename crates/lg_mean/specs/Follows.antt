@@ -11,14 +11,14 @@ use Rattle.lg_mean.specs.declared.mean_step.MeanStep.{MeanStep}
 use Rattle.lg_mean.specs.declared.mean_step.MeanStep.TheVariants as mean
 use Rattle.lg_mean.specs.Says.{Steps}
 
--- how a run stands behind a step with this answer
+-- the state of a run after a step with this answer
 abbrev pub status_behind : MeanStep → Status
 status_behind mean.Went = Running
 status_behind (mean.Ended status) = Ended status
 status_behind (mean.Undefined line) = Bad
 status_behind mean.WriteFault = Running
 
--- behind an answer the meaning stands at the machine's new state, and the machine has written what the meaning has written
+-- after an answer the meaning is at the machine's new state, and the machine has written what the meaning has written
 pub record IsBehind (l : LabelledNodes) (shape : TextShape) (addresses : List ℕ) (start : State) (k : ℕ) (answer : MeanStep) (new : State)
     (before out : List ℕ) (out' : Option (List ℕ)) : Type 0 where
   pub bytes : List ℕ
@@ -26,8 +26,8 @@ pub record IsBehind (l : LabelledNodes) (shape : TextShape) (addresses : List �
   pub stands : mean_from l shape addresses start (k + 1) ≡ record { status = status_behind answer; state = new; out = out ++ bytes; ending = ending }
   pub written : out' ≡ Some (before ++ (out ++ bytes))
 
--- where a machine stands as the meaning does after k steps, and a step of it meets no fault of its sink, it stands behind that step as the
--- meaning does after k + 1
+-- where a machine is in the state of the meaning after k steps, and a step of it meets no fault of its sink, it is in the state of the meaning after k + 1
+-- steps once that step is made
 abbrev pub StepsFollow : Type 0
 StepsFollow = (l : LabelledNodes) (shape : TextShape) (addresses : List ℕ) (start : State) (k line : ℕ) (old new : State) (answer : MeanStep)
     (before out : List ℕ) (out' : Option (List ℕ)) (faults faults' : ℕ)

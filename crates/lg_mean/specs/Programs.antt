@@ -27,23 +27,23 @@ pub record KnownText : Type 0 where
 abbrev pub text_of : KnownText → Text
 text_of p = text p.nodes p.shape p.labels.addresses
 
--- ---- what stands in the tables
+-- ---- what is in the tables
 abbrev pub pair_eq : ℕ × ℕ → ℕ × ℕ → Bool
 pair_eq x y = nat_eq x.0 y.0 && nat_eq x.1 y.1
 
--- a taken label that is bound in a function behind its `prolog`
+-- a taken label that is bound in a function after its `prolog`
 abbrev pub lands_in : Text → Function → ℕ → ℕ → Bool
 lands_in t f l k = slice_index_or t.taken l false && is_behind (Some f) k
 
--- the node to which `jmpr` goes in a function, among so many labels
+-- the node to which `jmpr` goes in a function, among n labels
 abbrev pub jump_in : Text → Function → ℕ → ℕ → Option ℕ
 jump_in t f w labels = last_landing (lands_in t f) t.places t.addresses w labels
 
--- the node to which a call of an address goes, among so many labels
+-- the node to which a call of an address goes, among n labels
 abbrev pub call_among : Text → ℕ → ℕ → Option ℕ
 call_among t w labels = last_landing (is_entry_label t) t.places t.addresses w labels
 
--- the tables hold where the first so many labels lead
+-- the tables hold where the first n labels lead
 pub record LeadsAmong (l : LabelledNodes) (t : Text) (jumps : List ((ℕ × ℕ) × ℕ)) (calls : List (ℕ × ℕ)) (labels : ℕ) : Type 0 where
   pub jumped : (f : Function) → IsFunction l.nodes f → (w : ℕ) → lookup (pair_eq (f.entry, w)) jumps ≡ jump_in t f w labels
   pub called : (w : ℕ) → lookup (nat_eq w) calls ≡ call_among t w labels
@@ -61,7 +61,7 @@ pub record IsTableOf (l : LabelledNodes) (shape : TextShape) (labels : LabelTabl
   pub resolved : AreResolved l.nodes (text l shape labels.addresses) labels.resolved
 
 -- ---- how a label gets into them
--- the `prolog` of a function to whose node a label is bound behind it
+-- the `prolog` of a function to whose node a label is bound after it
 abbrev pub entry_behind : Option Function → ℕ → Option ℕ
 entry_behind None k = None
 entry_behind (Some f) k = if nat_lt f.entry k then Some f.entry else None

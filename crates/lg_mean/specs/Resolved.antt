@@ -58,7 +58,7 @@ pub record IsPlaced (q : ResolvedNode) : Type 0 where
   pub second_is : q.second < 7
   pub third_is : q.third < 8
 
--- ---- what operands stand for
+-- ---- what operands denote
 pub record IsRegister (x : Operand) (place : ℕ) : Type 0 where
   pub bound : place < 7
   pub name : named x ≡ place

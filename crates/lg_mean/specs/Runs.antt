@@ -1,4 +1,4 @@
--- Where a run of the portable machine has come to, in the words of the portable meaning.
+-- Where a run of the portable machine is, in the words of the portable meaning.
 use Rattle.std.specs.Prelude.{◌≡◌, ◌<◌, ◌≤◌, ℕ, ◌+◌, List, ◌++◌, length, take, Option, Some, None, ⊤}
 use Rattle.std.specs.Io.KnownBytes.{Appends}
 use Rattle.lg_base.specs.Runs.{Ended, Bad}
@@ -30,15 +30,15 @@ pub record FailsToWrite (meaning : ℕ → Run) (n : ℕ) (s : State) (out out' 
   pub written : Appends out out' (bytes ++ take part more)
   pub rose : Rose faults faults'
 
--- the step behind the first n ends the meaning with a status; it writes nothing, and the state stays
+-- the step after the first n ends the meaning with a status; it writes nothing, and the state stays
 abbrev pub EndsBehind : (ℕ → Run) → ℕ → ℕ → Type 0
 EndsBehind meaning n status = (e : Ending) × (ending_status e ≡ status) × (meaning (n + 1) ≡ record (meaning n) { status = Ended status; ending = Some e })
 
--- the step behind the first n is undefined
+-- the step after the first n is undefined
 abbrev pub IsUndefinedBehind : (ℕ → Run) → ℕ → Type 0
 IsUndefinedBehind meaning n = meaning (n + 1) ≡ record (meaning n) { status = Bad }
 
--- where a run of at most so many steps has come to after n steps, at a state whose node has a line
+-- where a run of at most this many steps is after n steps, at a state whose node has a line
 abbrev pub ComesTo : (ℕ → Run) → RunEnd → (n most : ℕ) → State → (line : ℕ) → (out out' : Option (List ℕ)) → (faults faults' : ℕ) → Type 0
 ComesTo meaning (runs_end.Ended status) n most s line out out' faults faults' = (n ≤ most)
     × ((k : ℕ) × (n ≡ k + 1) × HasGoneOn meaning k s out out' × EndsBehind meaning k status)
@@ -52,7 +52,7 @@ abbrev pub KeepsCountBehind : RunEnd → (faults faults' : ℕ) → Type 0
 KeepsCountBehind runs_end.WriteFault faults faults' = ⊤
 KeepsCountBehind answer faults faults' = faults' ≡ faults
 
--- the answer that steps behind a run repeat
+-- the answer that steps after a run repeat
 abbrev pub over_behind : RunEnd → Option MeanStep
 over_behind (runs_end.Ended status) = Some (mean.Ended status)
 over_behind (runs_end.Undefined line) = Some (mean.Undefined line)

@@ -13,7 +13,7 @@ use crate::machine::{Machine, operand};
 use lg_node::{Addressing, Node, Operand, StoreType, ValueType};
 use lg_op::operators;
 
-// Whether an address is the sum of two operands.
+// Returns whether an address is the sum of two operands.
 pub(crate) fn is_indexed(addressing: Addressing) -> bool
     ensures { result ≡ is_indexed addressing }
 {
@@ -23,7 +23,7 @@ pub(crate) fn is_indexed(addressing: Addressing) -> bool
     )
 }
 
-// The place of the operand that is stored.
+// Returns the place of the operand that is stored.
 fn stored_operand(addressing: Addressing) -> usize
     ensures value { result ≡ stored_operand addressing }
     ensures bound { result < 4 }
@@ -32,7 +32,7 @@ fn stored_operand(addressing: Addressing) -> usize
 }
 
 impl Machine {
-    // The address of an access.
+    // Returns the address of an access.
     pub(crate) fn address(
         &self,
         addressing: Addressing,
@@ -52,7 +52,7 @@ impl Machine {
         Some(a.wrapping_add(b))
     }
 
-    // The number in so many bytes at an address, where each lies in a part and was written.
+    // Returns the number in this many bytes at an address, where each lies in a part and was written.
     #[inline(always)]
     fn number(&self, address: u64, width: u32) -> Option<u64>
         requires { width ≤ 8 }
@@ -61,7 +61,7 @@ impl Machine {
         self.memory.load(address, width)
     }
 
-    // The number that a type reads at an address.
+    // Returns the number that a type reads at an address.
     #[inline(always)]
     pub(crate) fn read(&self, value_type: ValueType, address: u64) -> Option<u64>
         ensures { result ≡ read (state_of self.now) address (width value_type) }
@@ -75,7 +75,7 @@ impl Machine {
         }
     }
 
-    // O1 = what stands at an address.
+    // O1 = what is at an address.
     fn load_to(&mut self, value_type: ValueType, address: u64, operand: Operand) -> bool
         requires { self.old.at < 2 ^ 32 - 1 }
         ensures { Does (load_to (state_of self.old) value_type address operand) (state_of self.old) result (state_of self.new) }

@@ -1,4 +1,4 @@
-// Addresses of labels for a text of which no code is made.
+// Addresses of labels for a text that no code is made of.
 
 ghost use Rattle.std.specs.Prelude.{◌≡◌, ◌*◌, ◌<◌, ◌^◌, length, IfOk};
 ghost use Rattle.lg_node.specs.Nodes.{MayStand};
@@ -10,7 +10,7 @@ use lg_meaning::laws::plain_addresses_are_addresses;
 use lg_node::{Label, LabelAddresses, NodeList, Place};
 use std::alloc::Global;
 
-// The plain address of a label that is bound at a place.
+// Returns the plain address of a label that is bound at a place.
 fn plain_address(place: Option<Place>) -> u64
     ensures { result ≡ plain_address place }
 {
@@ -21,7 +21,7 @@ fn plain_address(place: Option<Place>) -> u64
     }
 }
 
-/// The plain addresses of a text's labels: 0x10000000 + 256 i for a label that is bound at node i, 0x20000000 + k for one that is bound
+/// Returns the plain addresses of a text's labels: 0x10000000 + 256 i for a label that is bound at node i, 0x20000000 + k for one that is bound
 /// at byte k of the data part, and 0 for one that is not bound. They are addresses of the labels over code of 256 bytes for each node.
 pub fn plain_addresses(alloc: Global, nodes: &NodeList) -> Result<LabelAddresses, OutOfMemory>
     ensures value { IfOk result (λ addresses. addresses ≡ plain_addresses nodes.now) }

@@ -230,7 +230,7 @@ impl Machine {
         }
     }
 
-    // The argument of a number.
+    // Returns the argument of a number.
     pub(crate) fn argument(&self, index: u64) -> Option<u64>
         ensures value { result ≡ slice_get (state_of self.now).frame.args index }
         ensures few { IfSome result (λ word. index < 16) }

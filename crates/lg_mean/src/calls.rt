@@ -15,7 +15,7 @@ use crate::machine::{Machine, operand};
 use lg_node::{Function, Node};
 use lg_op::carry::Carry;
 
-// The bytes of a function's frame.
+// Returns the bytes of a function's frame.
 pub(crate) fn frame_size(function: Function) -> u32
     requires { function.locals ≤ 65536 }
     ensures value { result ≡ frame_of function }
@@ -46,7 +46,7 @@ impl Machine {
         self.go_on();
     }
 
-    // A further argument, of which there are fewer than 16.
+    // A further argument (fewer than 16).
     fn stage(&mut self, word: u64)
         requires { self.old.count < 16 }
         ensures { state_of self.new ≡ record (state_of self.old) { pushed = (state_of self.old).pushed ++ word ∷ [] } }
@@ -96,14 +96,14 @@ impl Machine {
         self.go_to(node);
     }
 
-    // Whether a frame of this size fits below the running one.
+    // Returns whether a frame of this size fits below the running one.
     pub(crate) fn has_room(&self, size: u32) -> bool
         ensures { result ≡ nat_le (0x3FF00010 + size) ((state_of self.now).frame.sp - (state_of self.now).frame.size) }
     {
         0x3FF0_0010 + size as u64 <= self.top.sp - self.top.size as u64
     }
 
-    // The frame of a call from here.
+    // Returns the frame of a call from here.
     pub(crate) fn callee(&self, count: u32) -> KeptFrame
         requires { self.now.at < 2 ^ 32 - 1 }
         ensures made { frame_in result ≡ called (state_of self.now) (take count self.now.staged) }
@@ -139,7 +139,7 @@ impl Machine {
         self.top = callee;
     }
 
-    // Goes behind a call, with the registers of the caller and the result.
+    // Moves past a call, with the registers of the caller and the result.
     pub(crate) fn resume(&mut self, node: u32, saved: [Option<u64>; 7], answer: Option<u64>)
         ensures { state_of self.new ≡ resumed (state_of self.old) node (regs_of saved) answer }
     {

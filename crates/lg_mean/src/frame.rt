@@ -7,7 +7,7 @@ pub(crate) struct KeptFrame {
     pub sp: u64,
     // The node of return.
     pub back: u32,
-    // The arguments, so many of which were passed.
+    // The arguments, this many of which were passed.
     pub args: [u64; 16],
     pub count: u32,
     // The registers of the caller.

@@ -5,7 +5,7 @@ ghost use Rattle.lg_meaning.specs.Steps.{function_here, begins};
 
 use lg_node::{Function, Shape};
 
-// The function of a node.
+// Returns the function of a node.
 pub(crate) fn function_here(shape: &Shape, node: u32) -> Option<Function>
     ensures value { result ≡ function_here shape.now.functions node }
     ensures small { IfSome result (λ f. f.locals ≤ 65536) }
@@ -20,7 +20,7 @@ pub(crate) fn function_here(shape: &Shape, node: u32) -> Option<Function>
     }
 }
 
-// Whether a function begins at a node.
+// Returns whether a function begins at a node.
 pub(crate) fn begins(shape: &Shape, node: u32) -> bool
     ensures { result ≡ begins (function_here shape.now.functions node) node }
 {

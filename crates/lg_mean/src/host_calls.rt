@@ -14,7 +14,7 @@ use lg_base::HostName;
 use lg_host::{HostEnd, call};
 use lg_io::Sink;
 
-// Whether a call is variadic.
+// Returns whether a call is variadic.
 fn is_marked(variadic: Option<bool>) -> bool
     ensures { result ≡ is_marked variadic }
 {
@@ -49,7 +49,7 @@ impl Machine {
         )
     }
 
-    // Goes behind a host call, which answered a word.
+    // Moves past a host call, which answered a word.
     fn behind(&mut self, word: u64)
         requires { self.old.at < 2 ^ 32 - 1 }
         ensures { state_of self.new ≡ resumed (state_of self.old) (self.old.at + 1) (regs_of self.old.registers) (Some word) }
@@ -59,7 +59,7 @@ impl Machine {
         self.resume(next, registers, Some(word));
     }
 
-    // Calls a host function with so many of the staged arguments.
+    // Calls a host function with this many of the staged arguments.
     pub(crate) fn host<O: Sink>(
         &mut self,
         name: HostName,

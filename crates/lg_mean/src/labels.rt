@@ -35,7 +35,7 @@ impl Model for Labels {
     ghost view = { λ l. record { addresses = l.addresses; jumps = l.jumps.entries; calls = l.calls.entries; resolved = l.resolved.items } };
 }
 
-// The later of a node and one that may be there.
+// Returns the later of a node and one that may be there.
 fn later(node: u32, other: Option<u32>) -> u32
     ensures { Some result ≡ later (Some node) other }
 {
@@ -45,7 +45,7 @@ fn later(node: u32, other: Option<u32>) -> u32
     }
 }
 
-// Notes that a label with this address is bound at a node, in the function that begins at `entry` behind its `prolog`, or where no
+// Notes that a label with this address is bound at a node, in the function that begins at `entry` after its `prolog`, or where no
 // `jmpr` goes.
 fn note_jump(
     jumps: &mut IndexMap<(u32, u64), u32>,
@@ -80,7 +80,7 @@ fn note_call(
     Ok(())
 }
 
-// The `prolog` of a function, where a node of it stands behind that.
+// Returns the `prolog` of a function, where a node of it is after that.
 fn entry_behind(function: Option<Function>, node: u32) -> Option<u32>
     ensures { result ≡ entry_behind function node }
 {
@@ -90,7 +90,7 @@ fn entry_behind(function: Option<Function>, node: u32) -> Option<u32>
     }
 }
 
-// The `prolog` of the function in which `jmpr` can go to a label that is bound at a node.
+// Returns the `prolog` of the function in which `jmpr` can go to a label that is bound at a node.
 fn jump_entry(
     nodes: &NodeList,
     shape: &Shape,
@@ -159,7 +159,7 @@ impl Tables {
         }
     }
 
-    // The tables of a text.
+    // Returns the tables of a text.
     fn of(
         alloc: Global,
         nodes: &NodeList,
@@ -203,7 +203,7 @@ fn resolved_nodes(
 }
 
 impl Labels {
-    /// The labels of accepted nodes with their shape, and with an address for each label.
+    /// Returns the labels of accepted nodes with their shape, and with an address for each label.
     pub(crate) fn of(
         alloc: Global,
         nodes: &NodeList,
@@ -226,14 +226,14 @@ impl Labels {
         })
     }
 
-    // The address of each label.
+    // Returns the address of each label.
     pub(crate) fn addresses(&self) -> &[u64]
         ensures { result.now ≡ self.now.addresses }
     {
         self.addresses.as_slice()
     }
 
-    // The node to which `jmpr` goes with a word, in the function that begins at a node.
+    // Returns the node to which `jmpr` goes with a word, in the function that begins at a node.
     pub(crate) fn jump(&self, entry: u32, word: u64) -> Option<u32>
         ensures { result ≡ lookup (pair_eq (entry, word)) self.now.jumps }
     {
@@ -249,7 +249,7 @@ impl Labels {
         &self.resolved[index as usize]
     }
 
-    // The node to which a call of a word goes.
+    // Returns the node to which a call of a word goes.
     pub(crate) fn call(&self, word: u64) -> Option<u32>
         ensures { result ≡ lookup (nat_eq word) self.now.calls }
     {

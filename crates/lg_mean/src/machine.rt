@@ -43,7 +43,7 @@ impl Model for Machine {
     ghost invariant = { IsMachine };
 }
 
-// The number of a register.
+// Returns the number of a register.
 pub(crate) fn number_of(reg: Reg) -> usize
     ensures value { result ≡ number_of reg }
     ensures bound { result < 7 }
@@ -59,7 +59,7 @@ pub(crate) fn number_of(reg: Reg) -> usize
     }
 }
 
-// The number of the register that an operand names.
+// Returns the number of the register that an operand names.
 fn named(operand: Operand) -> usize
     ensures value { result ≡ named operand }
     ensures bound { result < 7 }
@@ -79,7 +79,7 @@ pub(crate) fn operand(node: &Node, index: usize) -> Operand
     *node.operands.at(index)
 }
 
-// The number of the `arg` or `allocai` that an operand names.
+// Returns the number of the `arg` or `allocai` that an operand names.
 pub(crate) fn slot(operand: Operand) -> u32
     ensures { result ≡ slot operand }
 {
@@ -89,7 +89,7 @@ pub(crate) fn slot(operand: Operand) -> u32
     }
 }
 
-// The node at which the label of an operand is bound.
+// Returns the node at which the label of an operand is bound.
 pub(crate) fn node_of_label(nodes: &NodeList, operand: Operand) -> u32
     requires { IsKnown (length nodes.now.words) operand }
     ensures { result ≡ node_of_label nodes.now.places operand }
@@ -104,7 +104,7 @@ pub(crate) fn node_of_label(nodes: &NodeList, operand: Operand) -> u32
 }
 
 impl Machine {
-    // The node that comes next. Each byte of a machine lies in a part, and its heap mark in the heap.
+    // Returns the node that comes next. Each byte of a machine lies in a part, and its heap mark in the heap.
     pub(crate) fn place(&self) -> u32
         ensures value { result ≡ self.now.at }
         ensures memory { (a b : ℕ) → (state_of self.now).mem a ≡ Some b → is_open (state_of self.now) a ≡ true }
@@ -113,7 +113,7 @@ impl Machine {
         self.at
     }
 
-    // How many arguments are pushed.
+    // Returns how many arguments are pushed.
     pub(crate) fn pushed(&self) -> usize
         ensures value { result ≡ self.now.count }
         ensures pushed { length (state_of self.now).pushed ≡ result }
@@ -133,7 +133,7 @@ impl Machine {
         }
     }
 
-    // The word that an operand gives.
+    // Returns the word that an operand gives.
     pub(crate) fn value(&self, labels: &[u64], operand: Operand) -> Option<u64>
         requires { IsKnown (length labels.now) operand }
         ensures { result ≡ value labels.now (state_of self.now) operand }

@@ -46,9 +46,9 @@ impl Model for Portable {
 }
 
 impl Portable {
-    /// The state at the start of the run of an accepted text with its shape: the first node comes next, nothing is defined, and memory
-    /// holds the data part and the argument part. There is an address for each label; the data part has at most 16,777,216 bytes and the
-    /// argument part at most 1,048,576. It takes the memory of the whole run: the parts, room for 3,855 frames, tables of where words
+    /// Returns the state at the start of the run of an accepted text with its shape: the first node comes next, nothing is defined, and memory holds the data
+    /// part and the argument part. There is an address for each label; the data part has at most 16,777,216 bytes and the argument part at most 1,048,576. It
+    /// takes the memory of the whole run: the parts, room for 3,855 frames, tables of where words
     /// lead that are addresses of labels, and each node with its operands looked up.
     pub fn new(
         alloc: Global,
@@ -80,9 +80,9 @@ impl Portable {
     }
 
     /// One step of the node that comes next. The state is one of a run of this text: it was made by `new` for these nodes and this
-    /// shape, and fits them, as it does behind the step. `Undefined` exactly where the definition `step` of lg_meaning leaves the step
-    /// undefined, with the line of its node; `WriteFault` only where the count of faults of `out` rose, and then a part of the step's
-    /// bytes may have been written, from the first one on. After an answer other than `Went` it answers the same and changes nothing.
+    /// shape, and fits them, as it does after the step. `Undefined` exactly where the definition `step` of lg_meaning leaves the step undefined, with the
+    /// line of its node; `WriteFault` only where the count of faults of `out` rose, and then a part of the step's
+    /// bytes may have been written, from the first one on. After an answer other than `Went` it returns the same and changes nothing.
     /// Fewer than 2^64 - 1 steps went or ended before.
     #[inline(always)]
     pub fn step<O: Sink>(&mut self, unit: &Unit, shape: &Shape, out: &mut O) -> MeanStep
@@ -171,7 +171,7 @@ impl Portable {
         answer
     }
 
-    /// The node of the next step. `step` has answered nothing but `Went`.
+    /// Returns the node of the next step. `step` has answered nothing but `Went`.
     pub fn at(&self) -> u32
         requires { self.now.over ≡ None }
         ensures { result ≡ (state_of self.now.machine).at }
@@ -194,14 +194,14 @@ impl Portable {
         self.machine.why(node, &program)
     }
 
-    /// What a register holds, where it is defined.
+    /// Returns what a register holds, where it is defined.
     pub fn register(&self, register: Reg) -> Option<u64>
         ensures { result ≡ reg (state_of self.now.machine) register }
     {
         self.machine.reg(register)
     }
 
-    /// How many steps went or ended.
+    /// Returns how many steps went or ended.
     pub fn steps(&self) -> u64
         ensures { result ≡ self.now.steps }
     {
@@ -209,7 +209,7 @@ impl Portable {
     }
 }
 
-// The answer that is repeated from now on.
+// Returns the answer that is repeated from now on.
 fn over_of(answer: MeanStep) -> Option<MeanStep>
     ensures { result ≡ over_of answer }
 {

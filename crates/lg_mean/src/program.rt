@@ -29,7 +29,7 @@ impl<'a> Model for Program<'a> {
 }
 
 impl<'a> Program<'a> {
-    // The nodes, with the tables of their labels.
+    // Returns the nodes, with the tables of their labels.
     pub(crate) fn new(nodes: &'a NodeList, shape: &'a Shape, labels: &'a Labels) -> Program<'a>
         requires { IsTableOf nodes.now shape.now labels.now }
         ensures { result ≡ record { nodes = nodes.now; shape = shape.now; labels = labels.now } }
@@ -41,7 +41,7 @@ impl<'a> Program<'a> {
         }
     }
 
-    // The nodes. There is an address for each of their labels.
+    // Returns the nodes. There is an address for each of their labels.
     pub(crate) fn nodes(&self) -> &NodeList
         ensures value { result.now ≡ self.now.nodes }
         ensures same { length self.now.labels.addresses ≡ length self.now.nodes.words }
@@ -49,21 +49,21 @@ impl<'a> Program<'a> {
         self.nodes
     }
 
-    // The shape of the nodes.
+    // Returns the shape of the nodes.
     pub(crate) fn shape(&self) -> &Shape
         ensures { result.now ≡ self.now.shape }
     {
         self.shape
     }
 
-    // The address of each label.
+    // Returns the address of each label.
     pub(crate) fn addresses(&self) -> &[u64]
         ensures { result.now ≡ self.now.labels.addresses }
     {
         self.labels.addresses()
     }
 
-    // The node to which `jmpr` goes from a node with a word.
+    // Returns the node to which `jmpr` goes from a node with a word.
     pub(crate) fn jump_target(&self, at: u32, word: u64) -> Option<u32>
         ensures { result ≡ jump_target (text_of self.now) at word }
     {
@@ -72,7 +72,7 @@ impl<'a> Program<'a> {
         self.labels.jump(function.entry, word)
     }
 
-    // The node of the `prolog` to which a call of a word goes.
+    // Returns the node of the `prolog` to which a call of a word goes.
     pub(crate) fn entry_target(&self, word: u64) -> Option<u32>
         ensures { result ≡ entry_target (text_of self.now) word }
     {

@@ -80,7 +80,7 @@ struct OperandPlace {
     number: u64,
 }
 
-// The number of the register that an operand is.
+// Returns the number of the register that an operand is.
 fn register(operand: Operand) -> Option<u8>
     ensures { IfSome result (IsRegister operand) }
 {
@@ -90,7 +90,7 @@ fn register(operand: Operand) -> Option<u8>
     }
 }
 
-// The place of an operand that is a register or a constant.
+// Returns the place of an operand that is a register or a constant.
 fn source(labels: &[u64], operand: Operand) -> Option<OperandPlace>
     requires { IsKnown (length labels.now) operand }
     ensures { IfSome result (λ x. IsSource labels.now operand x.place x.number) }
@@ -113,7 +113,7 @@ fn source(labels: &[u64], operand: Operand) -> Option<OperandPlace>
     })
 }
 
-// The word of an operand that is a constant.
+// Returns the word of an operand that is a constant.
 fn constant(labels: &[u64], operand: Operand) -> Option<u64>
     requires { IsKnown (length labels.now) operand }
     ensures { IfSome result (λ x. IsSource labels.now operand 7 x) }
@@ -247,7 +247,7 @@ fn resolved_load(
     })
 }
 
-// The bytes at O1 = O2, or those at O1 + O2 = O3.
+// Returns the bytes at O1 = O2, or those at O1 + O2 = O3.
 fn resolved_store(
     store_type: StoreType,
     addressing: Addressing,

@@ -14,7 +14,7 @@ use lg_node::{BinaryOp, Condition, StoreType, UnaryOp, ValueType};
 use lg_op::operators;
 
 impl Machine {
-    // The word in a register, by its number.
+    // Returns the word in a register, by its number.
     #[inline(always)]
     fn register_at(&self, place: u8) -> Option<u64>
         requires { place < 7 }
@@ -26,7 +26,7 @@ impl Machine {
         self.registers[place as usize]
     }
 
-    // The word at a place, which may be that of the constant.
+    // Returns the word at a place, which may be that of the constant.
     #[inline(always)]
     fn source_at(&self, place: u8, number: u64) -> Option<u64>
         requires { place < 8 }

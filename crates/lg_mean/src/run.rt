@@ -32,10 +32,10 @@ pub enum RunEnd {
 
 impl Portable {
     /// Steps until the run ends, a step is undefined, a write fails, or this many more steps went. With n for the steps that `steps`
-    /// counts more behind it: `Ended` where the portable meaning from the state before has first ended at n; `Undefined`
+    /// counts more after it: `Ended` where the portable meaning from the state before has first ended at n; `Undefined`
     /// where it is first undefined at n + 1, with the line of its node; `StepsOut` where it has neither ended nor become undefined at
     /// `most`; each time `out` grew by exactly the bytes that the meaning has written. `WriteFault` only where the count of faults of
-    /// `out` rose, and then a part of the bytes of step n + 1 may have been written behind those of the first n. The state is one of a
+    /// `out` rose, and then a part of the bytes of step n + 1 may have been written after those of the first n. The state is one of a
     /// run of this text that is not over, as for `step`, and its steps and `most` together are fewer than 2^64. A step a turn.
     pub fn run<O: Sink>(&mut self, unit: &Unit, shape: &Shape, most: u64, out: &mut O) -> RunEnd
         requires made { IsTableOf unit.now.nodes shape.now self.old.labels }

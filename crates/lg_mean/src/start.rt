@@ -24,7 +24,7 @@ const ARGS: u64 = 0x2800_0000;
 // The end of the stack.
 const STACK_END: u64 = 0x4000_0000;
 
-// The frame of the entry, whose arguments are the number of strings of the argument part and the address of their pointers.
+// Returns the frame of the entry, whose arguments are the number of strings of the argument part and the address of their pointers.
 fn entry_frame(count: u64) -> KeptFrame
     ensures { frame_in result ≡ start_frame stack_end count }
 {
@@ -40,7 +40,7 @@ fn entry_frame(count: u64) -> KeptFrame
 }
 
 impl Machine {
-    // The state at the start, with these bytes of the data part and the argument part. It takes room for all frames.
+    // Returns the state at the start, with these bytes of the data part and the argument part. It takes room for all frames.
     pub(crate) fn new(alloc: Global, image: &[u8], args: &[u8]) -> Result<Machine, OutOfMemory>
         requires image { length image.now ≤ 0x1000000 }
         requires args { length args.now ≤ most_args }

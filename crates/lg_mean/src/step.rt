@@ -18,7 +18,7 @@ use lg_base::HostName;
 use lg_io::Sink;
 use lg_node::{ControlOp, Function, LastOperand, Node, Op, Operand, PlainOp};
 
-// The answer of a step that neither ends the run nor writes.
+// Returns the answer of a step that neither ends the run nor writes.
 fn answer(went: bool, line: u32) -> MeanStep
     ensures { result ≡ answer_of went line }
 {
@@ -29,7 +29,7 @@ fn answer(went: bool, line: u32) -> MeanStep
     }
 }
 
-// Whether a node neither calls nor returns.
+// Returns whether a node neither calls nor returns.
 fn stays(op: Op) -> bool
     ensures { result ≡ stays op }
 {
@@ -57,7 +57,7 @@ impl Machine {
         }
     }
 
-    // Goes into a function with so many of the staged arguments, where its frame fits.
+    // Goes into a function with this many of the staged arguments, where its frame fits.
     fn enter(&mut self, count: u32, function: Function) -> bool
         requires room { self.old.at < 2 ^ 32 - 1 }
         requires small { function.locals ≤ 65536 }
@@ -158,7 +158,7 @@ impl Machine {
         }
     }
 
-    // A call with so many of the staged arguments.
+    // A call with this many of the staged arguments.
     fn call<O: Sink>(
         &mut self,
         last: LastOperand,

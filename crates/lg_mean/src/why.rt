@@ -25,7 +25,7 @@ use lg_node::{
 };
 use lg_op::operators;
 
-// The first of some rows that holds.
+// Returns the first of some rows that holds.
 fn first(rows: &[Option<Reason>]) -> Option<Reason>
     ensures { result ≡ first rows.now }
 {
@@ -36,7 +36,7 @@ fn first(rows: &[Option<Reason>]) -> Option<Reason>
     }
 }
 
-// The register that an operand names; one that has no word is a register.
+// Returns the register that an operand names; one that has no word is a register.
 fn register(operand: Operand) -> Reg
     ensures { result ≡ register operand }
 {
@@ -46,14 +46,14 @@ fn register(operand: Operand) -> Reg
     }
 }
 
-// Whether a word is the least number and another one -1.
+// Returns whether a word is the least number and another one -1.
 fn is_least_by_minus_one(a: u64, b: u64) -> bool
     ensures { result ≡ is_least_by_minus_one a b }
 {
     a == 0x8000_0000_0000_0000 && b == 0xFFFF_FFFF_FFFF_FFFF
 }
 
-// Whether an operation cannot divide a word by another one.
+// Returns whether an operation cannot divide a word by another one.
 fn cannot_divide(op: BinaryOp, a: u64, b: u64) -> bool
     ensures { result ≡ cannot_divide op a b }
 {
@@ -82,7 +82,7 @@ fn where_so(so: bool, reason: Reason) -> Option<Reason>
     if so { Some(reason) } else { None }
 }
 
-// The last operand of a call.
+// Returns the last operand of a call.
 fn call_of(op: Op) -> Option<LastOperand>
     ensures { result ≡ call_of op }
 {
@@ -102,7 +102,7 @@ fn not_allowed(called: Called) -> Option<Reason>
     }
 }
 
-// The function of the text at a node, as what is called.
+// Returns the function of the text at a node, as what is called.
 fn function_at(program: &Program, node: u32) -> Option<Called>
     ensures value { result ≡ option_map Called.OfText (function_here program.now.shape.functions node) }
     ensures small { IfSome result IsSmall }
@@ -427,7 +427,7 @@ impl Machine {
         }
     }
 
-    // 10: a `retval` does not stand directly behind a call that gave a result.
+    // 10: a `retval` is not directly after a call that gave a result.
     fn row_10(&self, node: &Node) -> Option<Reason>
         ensures { result ≡ row_10 node.now.op (state_of self.now) }
     {

@@ -44,7 +44,7 @@ module _ (l : LabelledNodes) (shape : TextShape) (s : State) (n : Node) (x : AtN
     heap = g.heap;
   }
 
-  -- a frame of the function of a node behind its `prolog`
+  -- a frame of the function of a node after its `prolog`
   pub behind_top : (t : State) (k p : ℕ) (f : Function) → IsAt l shape k p f → p < k → t.at ≡ k → t.frame.size ≡ frame_of f → t.frame.locals ≡ f.locals → RunsIn shape t p
   behind_top t k p f is lt at size locals =
       let other : t.at ≡ f.entry → ⊥ = λ e. (let no : k ≡ p = sym at ∙ e ∙ is.entry in absurd (omega arith)) in

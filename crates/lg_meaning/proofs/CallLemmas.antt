@@ -69,7 +69,7 @@ abbrev at_host : State → Mem
 at_host s = memory s.mem (is_open s) s.mark
 
 module _ (l : LabelledNodes) (shape : TextShape) (s : State) (n : Node) (x : AtNode l shape s n) where
-  -- behind a call node nothing is prepared
+  -- after a call node nothing is prepared
   none_behind : (i : ℕ) (m : Node) → slice_get l.nodes i ≡ Some m → is_call m.op ≡ true → prepared_before l.nodes (i + 1) ≡ None
   none_behind i m here calls = prepared_on l.nodes i m here ∙ call_ends (prepared_before l.nodes i) m.op calls (λ breaks. x.shaped.unprepared i m here (rw breaks refl))
 
@@ -190,7 +190,7 @@ module _ (l : LabelledNodes) (shape : TextShape) (s : State) (n : Node) (x : AtN
     node_fits : (A : List ℕ) (k : ℕ) → home l.nodes k ≡ Some k → OnGoes (FitsWell l shape) (call_node (text l shape A) s args k)
     node_fits A k h = need_on (FitsWell l shape) (function_here shape.functions k) _ (λ f found. enter_fits k f h found)
 
-    -- the memory behind a host function
+    -- the memory after a host function
     host_memory : (changes : Changes) (mark v : ℕ) (bytes : List ℕ) → Writes (at_host s) v changes mark bytes → (a b : ℕ) → over changes s.mem a ≡ Some b → is_part s.data_size s.args_size mark (s.frame ∷ s.callers) a ≡ true
     host_memory changes mark v bytes w a b e = by (changes a) refl e
       where

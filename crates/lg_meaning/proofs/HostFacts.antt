@@ -14,7 +14,7 @@ use Rattle.lg_host.specs.declared.format.Reading.TheVariants as reading
 use Rattle.lg_host.specs.Host.{Mem, Host, Gives, Undefined, named, table, host_of, text, answered, malloc, calloc, memset, memcpy, fits, rounded, heap_end}
 use Rattle.lg_host.specs.HostLaws.{OnGives}
 
--- bytes are written only where they may be or in the heap that is handed out, and the mark rises, in the heap
+-- bytes are written only where they may be or in the heap that is allocated, and the mark rises, in the heap
 pub record Writes (m : Mem) (value : ℕ) (changes : Changes) (mark : ℕ) (bytes : List ℕ) : Type 0 where
   pub where_may : (a b : ℕ) → changes a ≡ Some b → (m.room a ≡ true) ⊎ ((m.mark ≤ a) × (a < mark))
   pub rises : m.mark ≤ mark

@@ -36,7 +36,7 @@ module _ (l : LabelledNodes) (shape : TextShape) (s : State) (n : Node) (x : AtN
   forms_at : (o : Op) → n.op ≡ o → admit (forms_of o) n.operands ≡ true
   forms_at o e = subst (λ (p : Op). admit (forms_of p) n.operands ≡ true) e x.formed.forms
 
-  -- an operation that changes registers alone and stands in functions alone
+  -- an operation that changes registers alone and is in functions alone
   register_fits : (o : Outcome) → may_stand_outside n.op (is_begun l.nodes s.at) ≡ false → is_prolog n.op ≡ false → is_epilog n.op ≡ false → prepares n.op ≡ false → OnGoes (Falls s) o → OnGoes (FitsWell l shape) o
   register_fits o out pro epi silent h = on_weaker (Falls s) (FitsWell l shape) (falls_fit l shape s n x out pro epi silent) o h
 

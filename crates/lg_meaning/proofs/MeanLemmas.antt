@@ -19,7 +19,7 @@ use Rattle.lg_meaning.proofs.KeepLemmas.{steps_fit}
 use Rattle.lg_meaning.proofs.StartLemmas.{start_fits}
 
 module _ (f : State → Outcome) where
-  -- by how the run stands
+  -- by how the run is
   stays : (r : Run) (status : Status) → r.status ≡ status → status ≢ Running → run_step f r ≡ r
   stays r Running e h = absurd (h refl)
   stays r (Ended status) e h = ap (λ t. going_on t (behind r (f r.state)) r) e

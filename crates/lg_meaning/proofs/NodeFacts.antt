@@ -65,7 +65,7 @@ still (Some call) (op.Control control.Finish last) e = cc
 still (Some call) o e = refl
 
 -- ---- operands
--- a label stands where a target is to stand
+-- a label is where a target is to stand
 pub target_first : (fs : List Form) (xs : List Operand) → admit (form.Target ∷ fs) xs ≡ true → (x : Label) × (ys : List Operand) × (xs ≡ operand.Label x ∷ ys)
 target_first fs [] e = cc
 target_first fs (operand.Label x ∷ ys) e = (x, ys, refl)
@@ -75,7 +75,7 @@ target_first fs (operand.Host name ∷ ys) e = cc
 target_first fs (operand.Slot k ∷ ys) e = cc
 
 -- ---- functions
--- a node that may not stand outside of every function stands in one
+-- a node that may not be outside of every function is in one
 pub inside_one : (o : Option ℕ) (may : Bool) → may ≡ false → (is_none o && not may) ≡ false → (p : ℕ) × (o ≡ Some p)
 inside_one None may e h = absurd (by may e h)
   where
@@ -108,7 +108,7 @@ module _ (l : LabelledNodes) (shape : TextShape) (s : State) (n : Node) (x : AtN
   pub at_home : (k p : ℕ) → home l.nodes k ≡ Some p → (f : Function) × IsAt l shape k p f
   at_home k p h = function_at_home l shape x.has x.same k p h
 
-  -- a node that may not stand outside stands in a function
+  -- a node that may not be outside is in a function
   pub in_some : may_stand_outside n.op (is_begun l.nodes s.at) ≡ false → (p : ℕ) × (home l.nodes s.at ≡ Some p)
   in_some out = inside_one (home l.nodes s.at) (may_stand_outside n.op (is_begun l.nodes s.at)) out (x.shaped.passes s.at n x.here).1.0
 

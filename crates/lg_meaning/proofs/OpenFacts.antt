@@ -63,7 +63,7 @@ without_there m from count a b e = by (within from count a) refl e
     by true is e = let no : ⊥ = cc in absurd no
     by false is e = (is, e)
 
--- bytes stand only where they may
+-- bytes are only where they may
 abbrev pub StandIn : (ℕ → Bool) → (ℕ → Option ℕ) → Type 0
 StandIn room m = (a b : ℕ) → m a ≡ Some b → room a ≡ true
 

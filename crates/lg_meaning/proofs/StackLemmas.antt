@@ -93,7 +93,7 @@ or_none true y e = refl
 or_none false y e = e
 
 module _ (d g mark : ℕ) (hd : d ≤ 0x1000000) (hg : g ≤ 0x100000) (hm : mark ≤ 0x30400000) where
-  -- behind the heap only locals are open
+  -- after the heap only locals are open
   high_part : (fs : List Frame) (a : ℕ) → 0x30400000 ≤ a → is_part d g mark fs a ≡ in_any_locals fs a
   high_part fs a h = last_alone (within 0x20000000 d a) (within 0x28000000 g a) (within 0x30000000 (mark - 0x30000000) a) (in_any_locals fs a) (false_from_ne_true (within 0x20000000 d a) (λ e. let i = inside 0x20000000 d a e in absurd (omega (arith, i.1)))) (false_from_ne_true (within 0x28000000 g a) (λ e. let i = inside 0x28000000 g a e in absurd (omega (arith, i.1)))) (false_from_ne_true (within 0x30000000 (mark - 0x30000000) a) (λ e. let i = inside 0x30000000 (mark - 0x30000000) a e in absurd (omega (arith, i.0, i.1))))
 
@@ -128,12 +128,12 @@ module _ (l : LabelledNodes) (shape : TextShape) (s : State) (well : FitsWell l 
   high : (a : ℕ) → 0x30400000 ≤ a → is_part s.data_size s.args_size s.mark (s.frame ∷ s.callers) a ≡ in_any_locals (s.frame ∷ s.callers) a
   high a h = high_part s.data_size s.args_size s.mark small.image small.args well.heap.high (s.frame ∷ s.callers) a h
 
-  -- each frame begins behind the heap
+  -- each frame begins after the heap
   begins : (k : ℕ) (f : Frame) → slice_get (s.frame ∷ s.callers) k ≡ Some f → 0x3FF00010 ≤ f.sp - f.size
   begins zero f e = let same : s.frame ≡ f = cc in let low = well.fits.low in subst (λ (u : Frame). 0x3FF00010 ≤ u.sp - u.size) same (omega arith)
   begins (suc k) f e = let up = frame_above end s.frame f s.callers k st e in let low = well.fits.low in omega arith
 
-  -- all open addresses behind the heap lie in frames
+  -- all open addresses after the heap lie in frames
   pub in_frames : (a : ℕ) → in_any_locals (s.frame ∷ s.callers) a ≡ true → (s.frame.sp - s.frame.size ≤ a) × (a < end)
   in_frames a t =
       ⊎_elim
@@ -157,7 +157,7 @@ module _ (l : LabelledNodes) (shape : TextShape) (s : State) (well : FitsWell l 
   high_words : (k a : ℕ) (f : Frame) → slice_get (s.frame ∷ s.callers) k ≡ Some f → 272 + f.locals ≤ f.size → f.sp - 144 ≤ a → a < f.sp → is_open s a ≡ false
   high_words k a f e room lo hi = let from = begins k f e in frames_open k a f e (omega arith) hi ∙ false_from_ne_true (in_locals f a) (λ t. let i = inside (f.sp - 144 - f.locals) f.locals a t in absurd (omega (arith, i.1)))
 
-  -- those of its arguments are the lowest ones of its caller's, or lie behind the stack
+  -- those of its arguments are the lowest ones of its caller's, or lie after the stack
   argument_words : (k a : ℕ) (f : Frame) → slice_get (s.frame ∷ s.callers) k ≡ Some f → f.sp ≤ a → a < f.sp + 128 → is_open s a ≡ false
   argument_words k a f e lo hi = by (caller_of end s.frame s.callers st k f e)
     where

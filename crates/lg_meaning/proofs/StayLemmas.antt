@@ -80,7 +80,7 @@ module _ (l : LabelledNodes) (shape : TextShape) (s : State) (n : Node) (x : AtN
   same_prepared : prepares n.op ≡ false → prepared_before l.nodes (s.at + 1) ≡ prepared_before l.nodes s.at
   same_prepared silent = prepared_next l shape s n x ∙ still (prepared_before l.nodes s.at) n.op silent
 
-  -- to the next node, of an operation that stands in functions alone
+  -- to the next node, of an operation that is in functions alone
   pub next_fits : (t : State) → may_stand_outside n.op (is_begun l.nodes s.at) ≡ false → is_prolog n.op ≡ false → is_epilog n.op ≡ false → GoesOn l s t (s.at + 1) → FitsWell l shape t
   next_fits t out pro epi g =
       let h = in_some l shape s n x out in
@@ -89,7 +89,7 @@ module _ (l : LabelledNodes) (shape : TextShape) (s : State) (n : Node) (x : AtN
   pub falls_fit : may_stand_outside n.op (is_begun l.nodes s.at) ≡ false → is_prolog n.op ≡ false → is_epilog n.op ≡ false → prepares n.op ≡ false → (t : State) → Falls s t → FitsWell l shape t
   falls_fit out pro epi silent t m = next_fits t out pro epi (moves_on t (s.at + 1) (same_prepared silent) m)
 
-  -- to the next node, of an operation that may stand anywhere
+  -- to the next node, of an operation that may be anywhere
   pub passes_fit : is_prolog n.op ≡ false → is_epilog n.op ≡ false → prepares n.op ≡ false → (t : State) → Falls s t → FitsWell l shape t
   passes_fit pro epi silent t m = by (home l.nodes s.at) refl
     where

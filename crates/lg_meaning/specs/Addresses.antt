@@ -16,8 +16,8 @@ pub record BeginsAt (l : LabelledNodes) (x i : ℕ) : Type 0 where
   pub bound : IsBound l x (place.Node i)
   pub begins : is_prolog_at (slice_get l.nodes i) ≡ true
 
--- addresses of the labels, over code of so many bytes: one for each label; that of a data label is its byte's; that of a code label is one
--- of the code part, or the one behind its last, and they never fall in the order of the text, and rise from one `prolog` to the next
+-- addresses of the labels, over code of this many bytes: one for each label; that of a data label is its byte's; that of a code label is one of the code
+-- part, or the one after its last, and they never fall in the order of the text, and rise from one `prolog` to the next
 pub record AreAddresses (l : LabelledNodes) (size : ℕ) (addresses : List ℕ) : Type 0 where
   pub count : length addresses ≡ length l.places
   pub images : (x k : ℕ) → IsBound l x (place.Image k) → slice_index addresses x ≡ data_base + k
@@ -25,7 +25,7 @@ pub record AreAddresses (l : LabelledNodes) (size : ℕ) (addresses : List ℕ) 
   pub order : (x y i j : ℕ) → IsBound l x (place.Node i) → IsBound l y (place.Node j) → i ≤ j → slice_index addresses x ≤ slice_index addresses y
   pub entries : (x y i j : ℕ) → BeginsAt l x i → BeginsAt l y j → i < j → slice_index addresses x < slice_index addresses y
 
--- labels that are bound at nodes are bound at nodes of the text, or behind the last one
+-- labels that are bound at nodes are bound at nodes of the text, or after the last one
 abbrev pub AreWithin : LabelledNodes → Type 0
 AreWithin l = (x i : ℕ) → IsBound l x (place.Node i) → i ≤ length l.nodes
 

@@ -85,12 +85,12 @@ pub record Fits (l : LabelledNodes) (shape : TextShape) (s : State) : Type 0 whe
   pub variadic : s.variadic ≡ variadic l.nodes s.at
   pub memory : (a b : ℕ) → s.mem a ≡ Some b → is_open s a ≡ true
 
--- the heap mark stands in the heap
+-- the heap mark is in the heap
 pub record IsHeapMark (mark : ℕ) : Type 0 where
   pub low : heap_base ≤ mark
   pub high : mark ≤ heap_end
 
--- a state that fits, and whose heap mark stands in the heap; without the latter a host function could write below the heap
+-- a state that fits, and whose heap mark is in the heap; without the latter a host function could write below the heap
 pub record FitsWell (l : LabelledNodes) (shape : TextShape) (s : State) : Type 0 where
   pub fits : Fits l shape s
   pub heap : IsHeapMark s.mark

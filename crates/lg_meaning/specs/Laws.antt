@@ -40,7 +40,7 @@ abbrev pub MeansFit : Type 0
 MeansFit = (l : LabelledNodes) (shape : TextShape) (addresses image args : List ℕ) (sp k : ℕ)
     → IsShapeOf l shape → All InForm l.nodes → IsEntryStack sp → FitsWell l shape (mean_from l shape addresses (start_state_at sp image args) k).state
 
--- where a state fits at a node of a function, the running frame has that function's size and locals behind the `prolog`, and neither at it
+-- where a state fits at a node of a function, the running frame has that function's size and locals after the `prolog`, and neither at it
 abbrev pub FramesAreOfFunctions : Type 0
 FramesAreOfFunctions = (l : LabelledNodes) (shape : TextShape) (s : State) (p : ℕ) → IsShapeOf l shape → Fits l shape s → home l.nodes s.at ≡ Some p
     → (is_prolog_at (slice_get l.nodes s.at) ≡ false → IsRunning shape.functions s)
@@ -72,7 +72,7 @@ abbrev pub MeansAreMachines : Type 0
 MeansAreMachines = (l : LabelledNodes) (shape : TextShape) (addresses : List ℕ)
     → IsMachine (machine l shape addresses) × EndsSilently (machine l shape addresses)
 
--- where a run that goes on stands after k steps, its next step leads to where it stands after k + 1
+-- where a run that goes on is after k steps, its next step leads to where it is after k + 1
 abbrev pub StepsAreMeans : Type 0
 StepsAreMeans = (l : LabelledNodes) (shape : TextShape) (addresses : List ℕ) (start s : State) (out : List ℕ) (k : ℕ)
     → mean_from l shape addresses start k ≡ run_at s out → mean_from l shape addresses start (k + 1) ≡ behind (run_at s out) (step l shape addresses s)

@@ -8,7 +8,7 @@ use Rattle.lg_meaning.specs.Steps.{Ending, ending_status, Outcome, Goes, Ends, U
 use Rattle.lg_meaning.specs.Texts.{step}
 use Rattle.lg_meaning.specs.Starts.{start_state}
 
--- a run: how it stands (Bad where it has become undefined), its last state, the bytes that it has written, and how it ended last
+-- a run: how it is (Bad where it has become undefined), its last state, the bytes that it has written, and how it ended last
 pub record Run : Type 0 where
   pub status : Status
   pub state : State
@@ -27,7 +27,7 @@ ending_of r = ending_in r.status r.ending
 abbrev pub run_at : State → List ℕ → Run
 run_at s out = record { status = Running; state = s; out = out; ending = None }
 
--- behind a step with this outcome
+-- after a step with this outcome
 abbrev pub behind : Run → Outcome → Run
 behind r (Goes t bytes) = run_at t (r.out ++ bytes)
 behind r (Ends e) = record r { status = Ended (ending_status e); ending = Some e }

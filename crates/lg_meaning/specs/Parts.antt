@@ -19,7 +19,7 @@ pub record HoldsParts (image args : List ℕ) (s : State) : Type 0 where
   pub args_held : (a : ℕ) → args_base ≤ a → a < heap_base → is_some (s.mem a) ≡ within args_base (length args) a
 
 -- ---- one part
--- so many bytes from an address on are among those of a range
+-- this many bytes from an address on are among those of a range
 pub record IsAmong (base size a w : ℕ) : Type 0 where
   pub from : base ≤ a
   pub to : a + w ≤ base + size

@@ -32,7 +32,7 @@ StepsReachSuccessors = (l : LabelledNodes) (shape : TextShape) (addresses : List
     → InForm n → slice_get l.nodes s.at ≡ Some n
     → is_return n.op ≡ false → step l shape addresses s ≡ Goes t bytes → t.at < length l.nodes → Reaches l shape s t
 
--- a label that is taken and bound at a node of a function behind its `prolog` is a successor of each `jmpr` of that function
+-- a label that is taken and bound at a node of a function after its `prolog` is a successor of each `jmpr` of that function
 abbrev pub TakenLabelsAreSuccessors : Type 0
 TakenLabelsAreSuccessors = (l : LabelledNodes) (shape : TextShape) (i k label function : ℕ) (n : Node) → slice_get l.nodes i ≡ Some n
     → n.op ≡ op.Control control.Jmp last_operand.Register → home l.nodes i ≡ Some function

@@ -196,7 +196,7 @@ is_not_allowed s args (OfText f) = None
 abbrev pub row_12 : Text → Node → Op → State → Option Reason
 row_12 t n o s = given (called_from t n o s) (is_not_allowed s (passed_by o s))
 
--- ---- 10: a `retval` does not stand directly behind a call that gave a result
+-- ---- 10: a `retval` is not directly after a call that gave a result
 abbrev pub row_10 : Op → State → Option Reason
 row_10 (op.Retval v) s = where_none s.answer NoResult
 row_10 o s = None

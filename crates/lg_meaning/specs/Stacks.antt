@@ -15,10 +15,10 @@ pub record OpensLocalsAlone (s : State) : Type 0 where
   -- among the addresses of a frame its own locals
   pub frames : (k a : ℕ) (f : Frame) → slice_get (s.frame ∷ s.callers) k ≡ Some f → f.sp - f.size ≤ a → a < f.sp → is_open s a ≡ in_locals f a
   -- so none of its words: the homes and spill slots, the saved registers, the caller's frame pointer and the return address, which end
-  -- at its stack pointer, and the stack words of its arguments behind them
+  -- at its stack pointer, and the stack words of its arguments after them
   pub words : (k a : ℕ) (f : Frame) → slice_get (s.frame ∷ s.callers) k ≡ Some f → f.sp - 144 ≤ a → a < f.sp + 128 → is_open s a ≡ false
   -- nor those of the arguments of a call that the running frame makes
   pub staged : (a : ℕ) → s.frame.sp - s.frame.size ≤ a → a < s.frame.sp - s.frame.size + 128 → is_open s a ≡ false
-  -- nothing below the running frame, and nothing behind the stack
+  -- nothing below the running frame, and nothing after the stack
   pub below : (a : ℕ) → heap_end ≤ a → a < s.frame.sp - s.frame.size → is_open s a ≡ false
   pub behind : (a : ℕ) → stack_end ≤ a → is_open s a ≡ false

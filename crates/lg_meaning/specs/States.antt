@@ -20,9 +20,9 @@ pub record Frame : Type 0 where
   pub locals : ℕ
 
 -- the node that comes next; the words of R0, R1, R2, V0, V1 and V2, by the numbers 0 to 5, where they are defined; the carry; the
--- result, where the last step was a return or a host call that gave one; the arguments that are pushed, and, where a call is being prepared,
--- whether `ellipsis` came since the `prepare`; the running frame and those of its callers, the last one first; the bytes that were written; the first address
--- of the heap that is not handed out; and the sizes of the data part and of the argument part
+-- result, where the last step was a return or a host call that gave one; the arguments that are pushed, and, where a call is being prepared, whether
+-- `ellipsis` came since the `prepare`; the running frame and those of its callers, the last one first; the bytes that were written; the first address of the
+-- heap that is not allocated; and the sizes of the data part and of the argument part
 pub record State : Type 0 where
   pub at : ℕ
   pub regs : ℕ → Option ℕ

@@ -107,7 +107,7 @@ binary_step A n f s = need (value A s (operand_at n 1)) (λ a. need (value A s (
 abbrev pub bit_word : Bool → ℕ
 bit_word bit = if bit then 1 else 0
 
--- the state behind an operation that sets the carry
+-- the state after an operation that sets the carry
 abbrev pub goes_with_carry : State → Operand → ℕ → Carry → State
 goes_with_carry s d v c = record (with_reg s d v) { at = s.at + 1; answer = None; carry = c }
 
@@ -165,7 +165,7 @@ landing test places addresses w l = node_if (option_flatten (slice_get places l)
     node_if (Some (place.Node k)) = if (slice_index addresses l == w) && test l k then Some k else None
     node_if p = None
 
--- the last node, in the order of the text, at which one of so many labels lands
+-- the last node, in the order of the text, at which one of n labels lands
 unfoldable pub last_landing : (ℕ → ℕ → Bool) → List (Option Place) → List ℕ → ℕ → ℕ → Option ℕ
 last_landing test places addresses w zero = None
 last_landing test places addresses w (suc l) = later (landing test places addresses w l) (last_landing test places addresses w l)
@@ -174,12 +174,12 @@ last_landing test places addresses w (suc l) = later (landing test places addres
 abbrev pub function_here : List Function → ℕ → Option Function
 function_here functions k = option_and_then (slice_get functions) (function_of functions k)
 
--- a node of a function behind its `prolog`
+-- a node of a function after its `prolog`
 abbrev pub is_behind : Option Function → ℕ → Bool
 is_behind None k = false
 is_behind (Some f) k = nat_lt f.entry k && nat_le k f.last
 
--- a taken label that is bound in the function of a node behind its `prolog`
+-- a taken label that is bound in the function of a node after its `prolog`
 abbrev pub is_target : Text → ℕ → ℕ → ℕ → Bool
 is_target t at l k = slice_index_or t.taken l false && is_behind (function_here t.functions at) k
 
@@ -191,7 +191,7 @@ abbrev pub jump_step : Text → Node → State → Outcome
 jump_step t n s = need (value t.addresses s (operand_at n 0)) (λ w. need (jump_target t s.at w) (λ k. quiet (to s k)))
 
 -- ---- memory
--- the number of so many bytes, where each lies in a part and was written; the address may be any
+-- the number of this many bytes, where each lies in a part and was written; the address may be any
 abbrev pub read : State → ℕ → ℕ → Option ℕ
 read s a w = if writable (is_open s) a w then loaded s.mem a w else None
 
@@ -215,7 +215,7 @@ sum_value A s n i = option_and_then (λ a. option_and_then (λ b. Some (add_word
 abbrev pub address : List ℕ → State → Addressing → Node → ℕ → Option ℕ
 address A s at n i = if is_indexed at then sum_value A s n i else value A s (operand_at n i)
 
--- the operand that is stored stands behind those of the address
+-- the operand that is stored is after those of the address
 abbrev pub stored_operand : Addressing → ℕ
 stored_operand at = if is_indexed at then 2 else 1
 
@@ -248,7 +248,7 @@ started s n = record s { at = n; regs = λ r. None; carry = carry.Undefined; ans
 abbrev pub kept : (ℕ → Option ℕ) → ℕ → Option ℕ
 kept regs r = if nat_lt r 3 then None else regs r
 
--- behind a call, at a node: the caller's registers are there again, and the result
+-- after a call, at a node: the caller's registers are there again, and the result
 abbrev pub resumed : State → ℕ → (ℕ → Option ℕ) → Option ℕ → State
 resumed s n saved v = record s { at = n; regs = kept saved; carry = carry.Undefined; answer = v; pushed = []; variadic = None }
 
@@ -284,7 +284,7 @@ leave s v = back_to s v s.callers
 abbrev pub ret_step : List ℕ → Node → State → Outcome
 ret_step A n s = need (value A s (operand_at n 0)) (λ v. leave s (Some v))
 
--- the state behind a call of a host function
+-- the state after a call of a host function
 abbrev pub answered : State → ℕ → (ℕ → Option ℕ) → ℕ → State
 answered s v mem mark = record (resumed s (s.at + 1) s.regs (Some v)) { mem = mem; mark = mark }
 
@@ -345,11 +345,11 @@ abbrev pub getarg_step : Node → ValueType → State → Outcome
 getarg_step n t s = need (slice_get s.frame.args (slot (operand_at n 1))) (λ v. operate s (operand_at n 0) (Some (extended_by_type t v)))
 
 -- ---- variable arguments: a list of them is the number of the next argument, from 0
--- the list begins behind the arguments with names, of which there are so many
+-- the list begins after the arguments with names (this many)
 abbrev pub va_start_step : List ℕ → Node → State → Outcome
 va_start_step A n s = operate s (operand_at n 0) (value A s (operand_at n 1))
 
--- an argument of the caller, and the list behind it
+-- an argument of the caller, and the list after it
 abbrev pub va_arg_step : List ℕ → Node → State → Outcome
 va_arg_step A n s =
     need (value A s (operand_at n 1)) (λ i. need (slice_get s.frame.args i)

@@ -14,7 +14,7 @@ pub fn starts_fit()
 }
 
 /// A step goes from a state that fits the shape of an accepted text to one that fits it, whatever the addresses of the labels are.
-/// Its node has the operands of its operation, and the heap mark stands in the heap, and does so behind the step.
+/// Its node has the operands of its operation, and the heap mark is in the heap, and does so after the step.
 pub fn steps_keep_the_fit()
     ensures { StepsKeepFit }
 {
@@ -23,7 +23,7 @@ pub fn steps_keep_the_fit()
 }
 
 /// Each state of the portable meaning of an accepted text, whose nodes have the operands of their operations, fits the text's shape,
-/// and its heap mark stands in the heap.
+/// and its heap mark is in the heap.
 pub fn states_of_the_meaning_fit()
     ensures { MeansFit }
 {
@@ -31,8 +31,8 @@ pub fn states_of_the_meaning_fit()
     accepted_nodes_have_functions();
 }
 
-/// In a state that fits, the running frame is one of the function of the state's node: it has that function's size and locals behind the
-/// `prolog`, and at the `prolog` room for them.
+/// In a state that fits, the running frame is one of the function of the state's node: it has that function's size and locals after the `prolog`, and at the
+/// `prolog` room for them.
 pub fn running_frames_are_of_their_functions()
     ensures { FramesAreOfFunctions }
 {
@@ -75,7 +75,7 @@ pub fn meanings_are_machines()
     ensures { MeansAreMachines }
 {}
 
-/// Where a run stands after k steps and goes on, its next step leads to where it stands after k + 1 steps.
+/// Where a run is after k steps and goes on, its next step leads to where it is after k + 1 steps.
 pub fn steps_are_those_of_the_meaning()
     ensures { StepsAreMeans }
 {}

@@ -47,9 +47,9 @@ pub enum Reason {
     NoLabel(u64),
     /// 8: a call goes to this word, and to no label at a `prolog` and to no host function.
     NoFunction(u64),
-    /// 9: a call finds no room for a frame of so many bytes.
+    /// 9: a call finds no room for a frame of this many bytes.
     NoRoom(u32),
-    /// 10: a `retval` does not stand directly behind a call that gave a result.
+    /// 10: a `retval` is not directly after a call that gave a result.
     NoResult,
     /// 11: a `getarg` wants the argument of this number, counted from 0, which was not pushed.
     NoArgument(u32),
@@ -60,7 +60,7 @@ pub enum Reason {
 }
 
 impl Reason {
-    /// The number of the row, 1 to 13; 3 and 5 are of no step.
+    /// Returns the number of the row, 1 to 13; 3 and 5 are of no step.
     pub fn item(self) -> u32
         ensures { result ≡ item_of self }
     {

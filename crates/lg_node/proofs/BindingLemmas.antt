@@ -21,7 +21,7 @@ use Rattle.lg_node.specs.declared.bindings.Bindings.TheInside.{Inside}
 use Rattle.lg_node.specs.Chains.{IsFirst, IsChain, IsJoined, AreBindings, bound_at}
 use Rattle.lg_node.proofs.NodeListLemmas.{longer}
 
--- a list is no other where the value behind its end is appended
+-- a list is no other where the value after its end is appended
 pub read-longer : {A : Type 0} (xs : List A) (d : A) (i : ℕ) → get_or (xs ++ d ∷ []) i d ≡ get_or xs i d
 read-longer [] d zero = refl
 read-longer [] d (suc i) = refl
@@ -131,7 +131,7 @@ stands n i (Some (place.Node k)) s e = let same : k ≡ i = grind (arith, nat_te
 stands n i (Some (place.Image k)) s e = cc
 stands n i None s e = cc
 
--- no label is bound past the node behind the last
+-- no label is bound past the node after the last
 none-past : (places : List (Option Place)) (n i : ℕ) → All (MayStand n) places → n < i → (k : ℕ) → bound_at places i k ≡ false
 none-past places n i placed past k = by (bound_at places i k) refl
   where
@@ -154,7 +154,7 @@ no-chain at next none = record {
     bound : (k : ℕ) → at k ≡ true → ⊥
     bound k t = let f : at k ≡ false = none k in cc
 
--- the labels behind the last node are those of the next one
+-- the labels after the last node are those of the next one
 pub node-added : (b new : Inside) → AreBindings b → new.places.items ≡ b.places.items → new.next.items ≡ b.next.items → new.ends.items ≡ b.ends.items ++ b.end ∷ [] → new.end ≡ None → AreBindings new
 node-added b new a places next ends end = record {
   paired = omega (arith, ap length places, ap length next, a.paired);

@@ -41,7 +41,7 @@ greatest at last k none t = by (cases_order k last)
     by (inr (inr lt)) = absurd (never (at k) t (none k (omega arith)))
 
 module _ (at more : ℕ → Bool) (x : ℕ) (free : at x ≡ false) (j : IsJoined at more x) where
-  -- a set with the label has the same labels behind it, and in front of it
+  -- a set with the label has the same labels after it, and in front of it
   pub none-behind : (from : ℕ) → x < from → NoneFrom at from → NoneFrom more from
   none-behind from h none = λ k le. j.others k (λ e. omega (arith, e)) ∙ none k le
 
@@ -63,7 +63,7 @@ module _ (at more : ℕ → Bool) (x : ℕ) (free : at x ≡ false) (j : IsJoine
         none = λ k low high. j.others k (λ e. omega (arith, e)) ∙ f.none k low high;
       }
 
-  -- behind the label come those that came behind the one in front of it
+  -- after the label come those that came after the one in front of it
   pub first-across : (b : ℕ) → b < x → ((k : ℕ) → b < k → k < x → at k ≡ false) → (o : Option Label) → IsFirst at (b + 1) o → IsFirst more (x + 1) o
   first-across b lt between None none = none-behind (x + 1) (omega arith) (λ k le. none k (omega arith))
   first-across b lt between (Some l) f = by (cases_order l.0 x)
@@ -109,7 +109,7 @@ module _ (at more : ℕ → Bool) (x : ℕ) (free : at x ≡ false) (j : IsJoine
       inside k t (inr (inl less)) = omega (arith, chain.within k (old k t (λ n. omega (arith, n, less))), length-set next x (Some e.first))
       inside k t (inr (inr more_than)) = omega (arith, chain.within k (old k t (λ n. omega (arith, n, more_than))), length-set next x (Some e.first))
 
-  -- a label behind one of the set
+  -- a label after one of the set
   pub behind : (next new : List (Option Label)) (e ends : Option Ends) (b : ℕ) (l : Label) → l.0 ≡ x → at b ≡ true → b < x → ((k : ℕ) → b < k → k < x → at k ≡ false) → x < length next → IsChain at next e → AreEnds more ends → new ≡ set (set next x (get_or next b None)) b (Some l) → IsChain more new ends
   behind next new e ends b l same t lt between within chain bounds is = record {
     bounds = bounds;

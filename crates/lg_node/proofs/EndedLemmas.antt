@@ -32,7 +32,7 @@ stays nodes f i (suc d) h here =
 abbrev with_locals : Function → ℕ → Function
 with_locals f n = record { entry = f.entry; last = f.last; locals = n }
 
--- the function that ends at an `epilog` is there behind it
+-- the function that ends at an `epilog` is there after it
 ends_here : (nodes : List Node) (f : Function) → IsEndedRun nodes f → Contains (functions_before nodes (f.last + 1)) f
 ends_here nodes f r =
     let there = node_within nodes f.last r.within in

@@ -80,7 +80,7 @@ closed_on nodes i (suc j) q closed h e = ⊎_elim
     (home_cases nodes j q (open_from nodes j q e)))
     (cases_eq i (suc j))
 
--- behind its `epilog` no node is of the function
+-- after its `epilog` no node is of the function
 home_until : (nodes : List Node) (e p k : ℕ) → home nodes e ≡ Some p → open_before nodes (e + 1) ≡ None → home nodes k ≡ Some p → k ≤ e
 home_until nodes e p k h closed at = ⊎_elim
     (λ (below : k < e + 1). omega arith)
@@ -157,7 +157,7 @@ closes_here nodes k j p n en from h eb same =
       last = from;
     }
 
--- no function ends at a node that is no `epilog`, and its function is open behind it
+-- no function ends at a node that is no `epilog`, and its function is open after it
 pub goes_on : (nodes : List Node) (j p : ℕ) (n : Node) → slice_get nodes j ≡ Some n → home nodes j ≡ Some p → is_epilog n.op ≡ false → (functions_before nodes (j + 1) ≡ functions_before nodes j) × (open_before nodes (j + 1) ≡ Some p)
 goes_on nodes j p n en h eb =
     let ends : ended_at nodes (home nodes j) j (Some n) ≡ None = rw (h, eb) refl in (

@@ -20,7 +20,7 @@ use Rattle.lg_node.specs.Checks.{FailsAll, is_arg, args_before, locals_before, p
 use Rattle.lg_node.specs.Walks.{walk_at, walk_behind, IsWithinLimits}
 use Rattle.lg_node.proofs.WalkLemmas.{walk_start, walk_on}
 
--- what an index behind the last node would give
+-- what an index after the last node would give
 empty_node : Node
 empty_node = record { op = Plain plain.Movi; operands = []; line = 0 }
 

@@ -1,4 +1,4 @@
--- What is known within a function stays behind an operation that is no mark.
+-- What is known within a function stays after an operation that is no mark.
 use Rattle.std.proofs.Common.{◌≡◌, ℕ, ◌+◌, Bool, true, false, ◌||◌, cond, List, Option, Some, None, is_some, refl, sym, ap, ◌∙◌, arith}
 use Rattle.std.specs.Prelude.{if◌then◌else◌}
 use Rattle.std.proofs.Math.Bool.{or-false}
@@ -39,7 +39,7 @@ inner p i call varies xs (op.Control a b) e = cc
 abbrev known : Option ℕ → Bool → ℕ → ℕ → Option Preparation → Bool → Walk
 known function begun args locals call varies = record { function = function; begun = begun; args = args; locals = locals; call = call; varies = varies }
 
--- the parts of what is known behind a node
+-- the parts of what is known after a node
 same : (w : Walk) (p : ℕ) (function : Option ℕ) (prolog arg : Bool) (size : ℕ) (call : Option Preparation) (varies : Bool)
     → w.function ≡ Some p → function ≡ Some p → prolog ≡ false → arg ≡ false → size ≡ 0 → call ≡ w.call → varies ≡ w.varies
     → known function (w.begun || prolog) (if is_some function then w.args + cond arg 1 0 else 0) (if is_some function then w.locals + size else 0) call varies ≡ w

@@ -13,7 +13,7 @@ if_not : (b : Bool) → (b ≡ true → ⊥) → b ≡ false
 if_not true h = absurd (h refl)
 if_not false h = refl
 
--- no function is open behind an `epilog`
+-- no function is open after an `epilog`
 ends_at : (nodes : List Node) (j : ℕ) → j < length nodes → is_epilog_at (slice_get nodes j) ≡ true → open_before nodes (j + 1) ≡ None
 ends_at nodes j h e =
     let there = node_within nodes j h in
@@ -51,14 +51,14 @@ none_of nodes i h e = let there = node_within nodes i h in by there.0 there.1 (o
     by n en None false eo ea none = (eo, ap is_prolog_at en ∙ ea)
     by n en None true eo ea none = let no : ◌≡◌ {A = Option ℕ} (Some i) None = sym (ap (λ (x : Option ℕ). home_of x i n.op) eo ∙ ap (λ b. cond b (Some i) None) ea) ∙ none in cc
 
--- where no function is open behind a node that is no `epilog`, it is of none
+-- where no function is open after a node that is no `epilog`, it is of none
 none_behind : (nodes : List Node) (i : ℕ) → i < length nodes → is_epilog_at (slice_get nodes i) ≡ false → open_before nodes (i + 1) ≡ None → home nodes i ≡ None
 none_behind nodes i h e none =
     let there = node_within nodes i h in
     let at : is_epilog there.0.op ≡ false = sym (ap is_epilog_at there.1) ∙ e in
     home_here nodes i there.0 there.1 ∙ sym (open_on nodes i there.0 there.1 ∙ ap (λ b. cond b None (home_of (open_before nodes i) i there.0.op)) at) ∙ none
 
--- where no function is open, an `epilog` stands behind each `prolog` before
+-- where no function is open, an `epilog` is after each `prolog` before
 ended_before : (nodes : List Node) (q m : ℕ) → q < m → m ≤ length nodes → is_prolog_at (slice_get nodes q) ≡ true → open_before nodes m ≡ None → HasEpilog nodes q m
 ended_before nodes q zero lt le begins none = absurd (omega arith)
 ended_before nodes q (suc m) lt le begins none = by (is_epilog_at (slice_get nodes m)) refl (λ less closed. ended_before nodes q m less (omega arith) begins closed)
@@ -100,7 +100,7 @@ home_first nodes p i h r =
     let at : is_prolog there.0.op ≡ true = sym (ap is_prolog_at there.1) ∙ r.begins in
     home_here nodes p there.0 there.1 ∙ ap (λ (o : Option ℕ). home_of o p there.0.op) (closed_where nodes p i h r) ∙ ap (λ b. cond b (Some p) None) at
 
--- it goes on as long as no `epilog` stands before
+-- it goes on as long as no `epilog` is before
 home_on : (nodes : List Node) (p d : ℕ) → p + d < length nodes → home nodes p ≡ Some p → (HasEpilog nodes p (p + d) → ⊥) → home nodes (p + d) ≡ Some p
 home_on nodes p zero h first never = let e : p + 0 ≡ p = omega arith in rw e first
 home_on nodes p (suc d) h first never =

@@ -129,7 +129,7 @@ module _ (l : LabelledNodes) (s : TextShape) (is : IsShapeOf l s) where
       let same : j.node ≡ k = node_of k j.node (place_of l.places x.0) j.place x.3 in
       inr (ap (home l.nodes) (sym same) ∙ j.entry ∙ ap (λ (q : ℕ). Some q) same)
 
-  -- behind a node outside of every function none is open
+  -- after a node outside of every function none is open
   enters_by_next : (i k : ℕ) (n : Node) → slice_get l.nodes i ≡ Some n → home l.nodes i ≡ None → IsNext l i k → (home l.nodes k ≡ None) ⊎ (home l.nodes k ≡ Some k)
   enters_by_next i k n e h next = by (home l.nodes k) refl
     where

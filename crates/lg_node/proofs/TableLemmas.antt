@@ -17,7 +17,7 @@ count_push xs ys x i e count = grind (arith, common_steps)
 pub table_push : {A : Type 0} (f : ℕ → A) (xs ys : List A) (x d : A) (i : ℕ) → ys ≡ xs ++ x ∷ [] → length xs ≡ i → x ≡ f i → ((k : ℕ) → k < i → get_or xs k d ≡ f k) → (k : ℕ) → k < i + 1 → get_or ys k d ≡ f k
 table_push f xs ys x d i e count here before k h = grind (arith, common_steps, before k)
 
--- a table that has all entries, where those behind it are the default
+-- a table that has all entries, where those after it are the default
 pub table_all : {A : Type 0} (f : ℕ → A) (xs : List A) (d : A) (i n : ℕ) → length xs ≡ i → n ≤ i → ((k : ℕ) → k < i → get_or xs k d ≡ f k) → ((k : ℕ) → n ≤ k → f k ≡ d) → (k : ℕ) → get_or xs k d ≡ f k
 table_all f xs d i n count all before past k = ⊎_elim (λ (h : k < i). before k h) (λ (h : i ≤ k). get_or_past xs k d (omega arith) ∙ sym (past k (omega arith))) (cases_lt k i)
 

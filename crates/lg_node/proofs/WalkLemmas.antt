@@ -121,7 +121,7 @@ since_on f nodes i n e = rw (open_on nodes i n e) (sum_of_open f nodes i n e (is
 pub begun_on : (nodes : List Node) (i : ℕ) (n : Node) → slice_get nodes i ≡ Some n → is_begun nodes (i + 1) ≡ (is_begun nodes i || is_prolog n.op)
 begun_on nodes i n e = ap (list_any is_prolog_node) (take_on nodes i n e) ∙ list_any-append is_prolog_node (take i nodes) (n ∷ []) ∙ ap (λ b. list_any is_prolog_node (take i nodes) || b) (or-false (is_prolog n.op))
 
--- what is known before the first node, and behind each one
+-- what is known before the first node, and after each one
 pub walk_start : (nodes : List Node) → walk_at nodes 0 ≡ record { function = None; begun = false; args = 0; locals = 0; call = None; varies = false }
 walk_start nodes = rw (open_start nodes, prepared_start nodes, varies_start nodes) refl
 

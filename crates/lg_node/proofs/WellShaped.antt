@@ -56,7 +56,7 @@ none_of : (o : Option ℕ) → is_some o ≡ false → o ≡ None
 none_of None e = refl
 none_of (Some p) e = cc
 
--- what begins to be prepared stands in a function, and goes on
+-- what begins to be prepared is in a function, and goes on
 is_prepare : Op → Bool
 is_prepare (Plain plain.Prepare) = true
 is_prepare op = false

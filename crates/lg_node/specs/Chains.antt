@@ -51,7 +51,7 @@ pub record BoundLabels : Type 0 where
 abbrev pub bindings_of : Inside → BoundLabels
 bindings_of b = record { places = b.places.items; nodes = length b.ends.items }
 
--- the labels of each node are a chain, and so are those behind the last
+-- the labels of each node are a chain, and so are those after the last
 pub record AreBindings (b : Inside) : Type 0 where
   pub paired : length b.places.items ≤ length b.next.items
   pub placed : All (MayStand (length b.ends.items)) b.places.items

@@ -34,7 +34,7 @@ may_stand_outside (Plain plain.Align) begun = true
 may_stand_outside (Control control.Jmp last_operand.Immediate) begun = not begun
 may_stand_outside op begun = false
 
--- a `prolog` stands before a node
+-- a `prolog` is before a node
 abbrev pub is_begun : List Node → ℕ → Bool
 is_begun nodes i = list_any is_prolog_node (take i nodes)
 
@@ -43,8 +43,8 @@ abbrev pub is_label : Operand → Bool
 is_label (operand.Label x) = true
 is_label x = false
 
--- TargetOutside: the target of a branch or jump is not in the same function behind its `prolog`, or, outside of every function, no
--- `prolog`; a call's is no `prolog`; or the address of a node stands as an immediate where it may not
+-- TargetOutside: the target of a branch or jump is not in the same function after its `prolog`, or, outside of every function, no `prolog`; a call's is no
+-- `prolog`; or the address of a node is as an immediate where it may not
 abbrev pub is_astray : LabelledNodes → Option ℕ → Op → Form → Operand → Bool
 is_astray l None op form.Target (operand.Label x) = not (is_entry l.nodes (place_of l.places x))
 is_astray l (Some p) op form.Target (operand.Label x) = not (is_inside l.nodes p (place_of l.places x))
@@ -57,13 +57,13 @@ abbrev pub any_by_form : (Form → Operand → Bool) → List Form → List Oper
 any_by_form test (f ∷ fs) (x ∷ xs) = test f x || any_by_form test fs xs
 any_by_form test fs xs = false
 
--- BadCall: what stands only where a call is being prepared
+-- BadCall: what is only where a call is being prepared
 abbrev pub needs_preparation : Op → Bool
 needs_preparation (Control control.Pusharg last) = true
 needs_preparation (Control control.Finish last) = true
 needs_preparation op = false
 
--- and what may not stand there: `prepare`, branches, jumps, other calls and returns
+-- and what may not be there: `prepare`, branches, jumps, other calls and returns
 abbrev pub breaks_preparation : Op → Bool
 breaks_preparation (Branch condition last) = true
 breaks_preparation (BranchSum sum last) = true
@@ -87,7 +87,7 @@ abbrev pub is_va_start : Op → Bool
 is_va_start (Plain plain.VaStart) = true
 is_va_start op = false
 
--- what may not stand behind a function's own `ellipsis`, and what only there
+-- what may not be after a function's own `ellipsis`, and what only there
 abbrev pub is_out_of_turn : Bool → Op → Bool
 is_out_of_turn true op = is_arg op
 is_out_of_turn false op = is_va_start op

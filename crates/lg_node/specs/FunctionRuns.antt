@@ -6,12 +6,12 @@ use Rattle.lg_op.specs.declared.node.Node.{Node}
 use Rattle.lg_node.specs.declared.function.Function.{Function}
 use Rattle.lg_node.specs.Functions.{is_prolog_at, is_epilog_at, local_size}
 
--- an `epilog` stands among the nodes from p on and before i
+-- an `epilog` is among the nodes from p on and before i
 abbrev pub HasEpilog : List Node → ℕ → ℕ → Type 0
 HasEpilog nodes p i = (j : ℕ) × (p ≤ j) × (j < i) × (is_epilog_at (slice_get nodes j) ≡ true)
 
--- a function begins at p and runs to i: a `prolog` stands at p and no `epilog` from there on before i, and behind each `prolog` before p
--- stands an `epilog` before p, so that p is no `prolog` inside a function
+-- a function begins at p and runs to i: a `prolog` is at p and no `epilog` from there on before i, and after each `prolog` before p stands an `epilog` before
+-- p, so that p is no `prolog` inside a function
 pub record RunsTo (nodes : List Node) (p i : ℕ) : Type 0 where
   pub order : p ≤ i
   pub begins : is_prolog_at (slice_get nodes p) ≡ true

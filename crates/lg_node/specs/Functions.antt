@@ -33,7 +33,7 @@ abbrev pub home_at : Option ℕ → ℕ → Option Node → Option ℕ
 home_at current i None = None
 home_at current i (Some n) = home_of current i n.op
 
--- the function that is open behind a node of this function: none behind an `epilog`
+-- the function that is open after a node of this function: none after an `epilog`
 abbrev pub open_behind : Option ℕ → Op → Option ℕ
 open_behind home op = if is_epilog op then None else home
 
@@ -50,7 +50,7 @@ open_before nodes (suc i) = open_behind_at (home_at (open_before nodes i) i (sli
 unfoldable pub home : List Node → ℕ → Option ℕ
 home nodes i = home_at (open_before nodes i) i (slice_get nodes i)
 
--- the nodes of a function that stand before a node
+-- the nodes of a function that are before a node
 abbrev pub since : List Node → Option ℕ → ℕ → List Node
 since nodes None i = []
 since nodes (Some p) i = slice_range nodes p i

@@ -38,22 +38,22 @@ abbrev pub is_entry : List Node → Option Place → Bool
 is_entry nodes (Some (place.Node k)) = is_prolog_at (slice_get nodes k)
 is_entry nodes p = false
 
--- node k is one of function p behind its `prolog`
+-- node k is one of function p after its `prolog`
 abbrev pub is_behind_prolog : Option ℕ → ℕ → ℕ → Bool
 is_behind_prolog None p k = false
 is_behind_prolog (Some q) p k = (q == p) && not (k == p)
 
--- the place is a node of function p behind its `prolog`
+-- the place is a node of function p after its `prolog`
 abbrev pub is_inside : List Node → ℕ → Option Place → Bool
 is_inside nodes p (Some (place.Node k)) = is_behind_prolog (home nodes k) p k
 is_inside nodes p o = false
 
--- node k is one of some function behind its `prolog`
+-- node k is one of some function after its `prolog`
 abbrev pub is_inner : Option ℕ → ℕ → Bool
 is_inner None k = false
 is_inner (Some p) k = not (k == p)
 
--- the place is a node of some function behind its `prolog`
+-- the place is a node of some function after its `prolog`
 abbrev pub is_inside_some : List Node → Option Place → Bool
 is_inside_some nodes (Some (place.Node k)) = is_inner (home nodes k) k
 is_inside_some nodes o = false
@@ -73,7 +73,7 @@ is_label label x = false
 abbrev pub names_address : ℕ → Node → Bool
 names_address label n = takes_address n.op && list_any (is_label label) n.operands
 
--- a label is taken where some such node names it and it is bound in some function behind its `prolog`
+-- a label is taken where some such node names it and it is bound in some function after its `prolog`
 abbrev pub is_taken : LabelledNodes → ℕ → Bool
 is_taken l label = list_any (names_address label) l.nodes && is_inside_some l.nodes (option_flatten (slice_get l.places label))
 

@@ -23,6 +23,6 @@ rounded size = (size + 7) / 8 * 8
 abbrev pub allocai : ℕ → ℕ → ℕ → Node
 allocai size number line = record { op = Plain plain.Allocai; operands = operand.Number size ∷ operand.Slot number ∷ []; line = line }
 
--- the offset from FP of the last of locals that take so many bytes: they lie below the 128 bytes that a frame keeps under FP
+-- the offset from FP of the last of locals that take this many bytes: they lie below the 128 bytes that a frame keeps under FP
 abbrev pub offset_below : ℕ → ℕ
 offset_below bytes = 2 ^ 64 - (128 + bytes)

@@ -8,7 +8,7 @@ use Rattle.lg_node.specs.declared.node_list.NodeList.TheInside.{Inside}
 abbrev pub view_of : Inside → LabelledNodes
 view_of l = record { nodes = l.nodes.items; words = map (λ w. w.items) l.words.keys; places = l.bindings.places }
 
--- each label has a place, the places are those of so many nodes, and the nodes and the words are as they were asked to be
+-- each label has a place, the places are those of n nodes, and the nodes and the words are as they were asked to be
 pub record IsNodeList (l : Inside) : Type 0 where
   pub paired : length l.bindings.places ≡ length l.words.keys
   pub counted : l.bindings.nodes ≡ length l.nodes.items

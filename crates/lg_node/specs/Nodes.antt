@@ -32,7 +32,7 @@ mentioned l word = if list_any (bytes_eq word) l.words then l else record l { wo
 abbrev pub with_place : LabelledNodes → ℕ → Place → LabelledNodes
 with_place l label p = record l { places = slice_set l.places label (Some p) }
 
--- a place that is a node is at one of so many nodes, or behind the last
+-- a place that is a node is at one of n nodes, or after the last
 abbrev pub IsWithin : ℕ → Place → Type 0
 IsWithin len (place.Node k) = k ≤ len
 IsWithin len (place.Image k) = Unit {0}

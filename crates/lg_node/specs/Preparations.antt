@@ -1,4 +1,4 @@
--- The calls that are being prepared: from the node behind a `prepare` up to and with the next `finishr` or `finishi`.
+-- The calls that are being prepared: from the node after a `prepare` up to and with the next `finishr` or `finishi`.
 use Rattle.std.specs.Prelude.{ℕ, zero, suc, ◌+◌, Bool, true, false, List, Option, Some, None, slice_get}
 use Rattle.lg_op.specs.declared.op.Op.{Op}
 use Rattle.lg_op.specs.declared.op.Op.TheVariants.{Control, Plain}
@@ -7,7 +7,7 @@ use Rattle.lg_op.specs.declared.op.PlainOp.TheVariants as plain
 use Rattle.lg_op.specs.declared.node.Node.{Node}
 use Rattle.lg_node.specs.declared.preparation.Preparation.{Preparation}
 
--- what is being prepared behind an operation
+-- what is being prepared after an operation
 abbrev pub prepared_behind : Option Preparation → Op → Option Preparation
 prepared_behind current (Plain plain.Prepare) = Some record { pushed = 0; variadic = false }
 prepared_behind current (Control control.Finish last) = None
@@ -24,7 +24,7 @@ unfoldable pub prepared_before : List Node → ℕ → Option Preparation
 prepared_before nodes zero = None
 prepared_before nodes (suc i) = prepared_behind_at (prepared_before nodes i) (slice_get nodes i)
 
--- whether the function that is open has variable arguments, behind an operation: its own `ellipsis` came, which stands where no call is prepared
+-- whether the function that is open has variable arguments, after an operation: its own `ellipsis` came, which is where no call is prepared
 abbrev pub varies_behind : Bool → Option Preparation → Op → Bool
 varies_behind varies call (Plain plain.Prolog) = false
 varies_behind varies None (Plain plain.Ellipsis) = true

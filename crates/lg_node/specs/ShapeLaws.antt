@@ -35,7 +35,7 @@ has_callee (Control control.Call last_operand.Immediate) = true
 has_callee (Control control.Finish last_operand.Immediate) = true
 has_callee op = false
 
--- a place is a node of function p behind its `prolog`, at which no call is being prepared
+-- a place is a node of function p after its `prolog`, at which no call is being prepared
 pub record IsTargetIn (l : LabelledNodes) (p : ℕ) (o : Option Place) : Type 0 where
   pub node : ℕ
   pub place : o ≡ Some (place.Node node)
@@ -59,7 +59,7 @@ JumpsTo l None o = IsEntry l o
 pub record IsWellShaped (l : LabelledNodes) : Type 0 where
   -- no kind refuses a node
   pub passes : (i : ℕ) (n : Node) → slice_get l.nodes i ≡ Some n → FailsAll (refuses l i n) kinds
-  -- the node behind one of a function that is no `epilog` is of the same function, behind its `prolog`
+  -- the node after one of a function that is no `epilog` is of the same function, after its `prolog`
   pub falls : (i p : ℕ) → home l.nodes i ≡ Some p → is_epilog_at (slice_get l.nodes i) ≡ false → (home l.nodes (i + 1) ≡ Some p) × (p < i + 1)
   -- a `prolog` begins a function, and no call is being prepared there
   pub entries : (i : ℕ) → is_prolog_at (slice_get l.nodes i) ≡ true → (home l.nodes i ≡ Some i) × (prepared_before l.nodes i ≡ None)
@@ -103,7 +103,7 @@ pub record HasFunctions (l : LabelledNodes) : Type 0 where
   pub numbers : (i p : ℕ) → home l.nodes i ≡ Some p → IsNumbered (functions l.nodes) i p
   pub outside : (i : ℕ) → home l.nodes i ≡ None → (function_of (functions l.nodes) i ≡ None) × (function_at (functions l.nodes) i ≡ None)
 
--- the successors of a node of a function are nodes of the same function, behind its `prolog`
+-- the successors of a node of a function are nodes of the same function, after its `prolog`
 abbrev pub SuccessorsStay : Type 0
 SuccessorsStay = (l : LabelledNodes) (s : TextShape) → IsShapeOf l s → (i k p : ℕ) → home l.nodes i ≡ Some p → IsSuccessor l s i k
     → (home l.nodes k ≡ Some p) × (p < k)
@@ -113,7 +113,7 @@ abbrev pub SuccessorsEnter : Type 0
 SuccessorsEnter = (l : LabelledNodes) (s : TextShape) → IsShapeOf l s → (i k : ℕ) → home l.nodes i ≡ None → IsSuccessor l s i k
     → (home l.nodes k ≡ None) ⊎ (home l.nodes k ≡ Some k)
 
--- a label that is taken in a text is bound in a function behind its `prolog`
+-- a label that is taken in a text is bound in a function after its `prolog`
 pub record IsBoundInside (l : LabelledNodes) (label : ℕ) : Type 0 where
   pub node : ℕ
   pub function : ℕ

@@ -71,7 +71,7 @@ IsNext l i k = (k ≡ i + 1) × (k < length l.nodes)
 abbrev pub IsTarget : LabelledNodes → Node → ℕ → Type 0
 IsTarget l n k = target_of l.places n.operands ≡ Some (place.Node k)
 
--- a taken label is bound at node k, in the function of node i behind its `prolog`
+-- a taken label is bound at node k, in the function of node i after its `prolog`
 pub record IsTakenIn (l : LabelledNodes) (s : TextShape) (i k : ℕ) : Type 0 where
   pub label : ℕ
   pub taken : IsTaken s label

@@ -20,7 +20,7 @@ walk_at nodes i = record {
   varies = varies_before nodes i;
 }
 
--- what is known behind a node: counts are kept while a function is open
+-- what is known after a node: counts are kept while a function is open
 abbrev pub behind_in : Option ℕ → Walk → Node → Walk
 behind_in function w n = record {
   function = function;

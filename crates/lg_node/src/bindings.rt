@@ -45,7 +45,7 @@ impl Bindings {
         }
     }
 
-    /// No nodes and no labels, with memory for so many nodes.
+    /// No nodes and no labels, with memory for this many nodes.
     pub fn with_room(alloc: Global, nodes: u32) -> Result<Bindings, OutOfMemory>
         ensures { IfOk result (λ b. b ≡ record { places = []; nodes = 0 }) }
     {
@@ -73,7 +73,7 @@ impl Bindings {
         })
     }
 
-    /// Makes room for one node more, at which the labels stand that were bound behind the last. At Err nothing changes.
+    /// Makes room for one node more, at which the labels stand that were bound after the last. At Err nothing changes.
     pub fn add_node(&mut self) -> Result<(), OutOfMemory>
         ensures ok { OnOk result (self.new ≡ record self.old { nodes = self.old.nodes + 1 }) }
         ensures err { OnErr result (self.new ≡ self.old) }
@@ -134,7 +134,7 @@ impl Bindings {
         true
     }
 
-    /// The place at which a label is bound, and None where it is not bound.
+    /// Returns the place at which a label is bound, or `None` if it is not bound.
     pub fn place(&self, label: Label) -> Option<Place>
         requires { label.0 < length self.now.places }
         ensures place { Some result ≡ slice_get self.now.places label.0 }
@@ -143,7 +143,7 @@ impl Bindings {
         self.places[label.0 as usize]
     }
 
-    /// The first label that is bound at a node, or behind the last.
+    /// Returns the first label that is bound at a node, or after the last.
     pub fn first_at(&self, node: u32) -> Option<Label>
         requires { node ≤ self.now.nodes }
         ensures found { IfSome result (λ l. NextAt self.now.places node 0 l.0) }
@@ -161,7 +161,7 @@ impl Bindings {
         }
     }
 
-    /// The label that comes next at the node at which a label is bound, which is at a node or behind the last; None behind the last label.
+    /// Returns the label that comes next at the node at which a label is bound, which is at a node or after the last; None after the last label.
     pub fn next_at(&self, label: Label) -> Option<Label>
         requires label { label.0 < length self.now.places }
         requires bound { (i : ℕ) × (is_at i (slice_index_or self.now.places label.0 None) ≡ true) }

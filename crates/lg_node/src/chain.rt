@@ -14,7 +14,7 @@ pub struct Ends {
     pub last: Label,
 }
 
-// The last label of a chain in front of another label, which is not its first.
+// Returns the last label of a chain in front of another label, which is not its first.
 fn label_before(next: &[Option<Label>], first: Label, label: Label) -> Label
     requires chain { (at : ℕ → Bool) × (ends : Option Ends) × IsChain at next.now ends × (at first.0 ≡ true) }
     requires first { first.0 < label.0 }
@@ -33,7 +33,7 @@ fn label_before(next: &[Option<Label>], first: Label, label: Label) -> Label
     before
 }
 
-// Puts a label behind another one of its chain.
+// Puts a label after another one of its chain.
 fn put_behind(next: &mut [Option<Label>], before: Label, label: Label)
     requires before { before.0 < length next.old }
     requires label { label.0 < length next.old }

@@ -46,7 +46,7 @@ fn refusal_at(
     }
 }
 
-// Goes behind the node of an index, or says why that is refused: all is looked at.
+// Moves past the node of an index, or says why that is refused: all is looked at.
 #[inline(never)]
 fn pass_any(
     nodes: &NodeList,
@@ -73,7 +73,7 @@ fn pass_any(
     }
 }
 
-// Goes behind the node of an index, or says why that is refused. Most nodes change nothing and are not refused, which is seen at once.
+// Moves past the node of an index, or says why that is refused. Most nodes change nothing and are not refused, which is seen at once.
 #[inline(always)]
 fn pass_node(
     nodes: &NodeList,
@@ -97,7 +97,7 @@ fn pass_node(
     pass_any(nodes, tables, walk, index, node)
 }
 
-// What is known at the end of nodes of which none is refused, or why the first one is that is.
+// What is known at the end of nodes none of which is refused, or why the first one is that is.
 fn walk_to_end(nodes: &NodeList, tables: &Tables) -> Result<Walk, Refusal>
     requires { AreTables nodes.now tables.now }
     ensures walk { IfOk result (λ walk. walk ≡ walk_at nodes.now.nodes (length nodes.now.nodes)) }
@@ -145,7 +145,7 @@ fn first_refusal(nodes: &NodeList, tables: &Tables) -> Result<(), Refusal>
     }
 }
 
-// The shape of accepted nodes, where these labels are taken.
+// Returns the shape of accepted nodes, where these labels are taken.
 fn shape_of(alloc: Global, nodes: &NodeList, taken: Vec<bool>) -> Result<Shape, OutOfMemory>
     requires { IsAccepted nodes.now }
     ensures { IfOk result (λ shape. shape ≡ shape_of nodes.now.nodes taken.items) }
@@ -154,7 +154,7 @@ fn shape_of(alloc: Global, nodes: &NodeList, taken: Vec<bool>) -> Result<Shape, 
     Ok(Shape::from_ranges(ranges, taken))
 }
 
-// The shape of nodes, or why they are refused.
+// Returns the shape of nodes, or why they are refused.
 fn checked(alloc: Global, nodes: &NodeList) -> Result<Result<Shape, Refusal>, OutOfMemory>
     ensures { IfOk result (λ checked. IsChecked nodes.now checked) }
 {
@@ -167,7 +167,7 @@ fn checked(alloc: Global, nodes: &NodeList) -> Result<Result<Shape, Refusal>, Ou
     Ok(Ok(shape))
 }
 
-/// The shape of a text that has been read, or why it is refused: by the first node that is refused, with that node's line and the
+/// Returns the shape of a text that has been read, or why it is refused: by the first node that is refused, with that node's line and the
 /// first of these kinds that refuses it, `LabelMissing`, `NotInFunction`, `FunctionOpen`, `TargetOutside`, `BadCall`, `TooManyArgs` and
 /// `FrameTooBig`; else at its end, by `FunctionOpen` with the line of the `prolog` that is open, or by `NoCode` with line 1.
 pub fn check(alloc: Global, unit: &Unit) -> Result<Shape, Stop>
@@ -182,7 +182,7 @@ pub fn check(alloc: Global, unit: &Unit) -> Result<Shape, Stop>
     }
 }
 
-/// The shape of nodes that a text was rewritten to, which are not refused. The taken labels stay those of the text.
+/// Returns the shape of nodes that a text was rewritten to, which are not refused. The taken labels stay those of the text.
 pub fn reshape(alloc: Global, nodes: &NodeList, old: &Shape) -> Result<Shape, OutOfMemory>
     requires { IsAccepted nodes.now }
     ensures shape { IfOk result (λ shape. IsShapeOf nodes.now shape) }

@@ -7,7 +7,7 @@ ghost use Rattle.lg_node.specs.declared.function.Function.{Function};
 ghost use Rattle.lg_node.specs.Functions.{home, functions};
 ghost use Rattle.lg_node.specs.FunctionRuns.{RunsTo, IsEndedRun};
 
-/// A node stands in the function of a `prolog` exactly where the function that begins there runs to the node.
+/// A node is in the function of a `prolog` exactly where the function that begins there runs to the node.
 pub fn homes_are_runs()
     ensures { (nodes : List Node) (i p : ℕ) → i < length nodes → (home nodes i ≡ Some p) ↔ RunsTo nodes p i }
 {}
@@ -17,7 +17,7 @@ pub fn functions_are_ended_runs()
     ensures { (nodes : List Node) (f : Function) → Contains (functions nodes) f ↔ IsEndedRun nodes f }
 {}
 
-/// The functions are in the order of their nodes: each ends before those behind it begin.
+/// The functions are in the order of their nodes: each ends before those after it begin.
 pub fn functions_are_in_order()
     ensures { (nodes : List Node) → AllPairs (λ f g. f.last < g.entry) (functions nodes) }
 {}

@@ -21,7 +21,7 @@ impl Model for LabelAddresses {
 }
 
 impl LabelAddresses {
-    /// The list of these addresses, of which there are at most 4,294,967,295.
+    /// Returns the list of these addresses (at most 4,294,967,295).
     pub fn of(alloc: Global, list: &[u64]) -> Result<LabelAddresses, OutOfMemory>
         requires { length list.now < 2 ^ 32 }
         ensures { IfOk result (λ l. l ≡ list.now) }
@@ -30,7 +30,7 @@ impl LabelAddresses {
         Ok(LabelAddresses { addresses })
     }
 
-    /// The list that a vector holds, of which there are at most 4,294,967,295 addresses. No memory is taken.
+    /// Returns the list that a vector holds (at most 4,294,967,295 addresses). No memory is taken.
     pub fn from_vec(addresses: Vec<u64>) -> LabelAddresses
         requires { length addresses.items < 2 ^ 32 }
         ensures { result ≡ addresses.items }
@@ -38,21 +38,21 @@ impl LabelAddresses {
         LabelAddresses { addresses }
     }
 
-    /// How many labels there are.
+    /// Returns how many labels there are.
     pub fn len(&self) -> u32
         ensures { result ≡ length self.now }
     {
         self.addresses.len() as u32
     }
 
-    /// Whether there is none.
+    /// Returns whether there is none.
     pub fn is_empty(&self) -> bool
         ensures { IsTrue result ↔ (length self.now ≡ 0) }
     {
         self.addresses.len() == 0
     }
 
-    /// The address of the label of a number, which is below `len`.
+    /// Returns the address of the label of a number, which is below `len`.
     pub fn get(&self, label: u32) -> u64
         requires { label < length self.now }
         ensures { result ≡ slice_index self.now label }
@@ -60,7 +60,7 @@ impl LabelAddresses {
         self.addresses[label as usize]
     }
 
-    /// The addresses.
+    /// Returns the addresses.
     pub fn as_slice(&self) -> &[u64]
         ensures value { result.now ≡ self.now }
         ensures small { length self.now < 2 ^ 32 }

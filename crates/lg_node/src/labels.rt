@@ -10,14 +10,14 @@ use crate::place::Place;
 use crate::walk::is_prolog;
 use lg_op::{ControlOp, LastOperand, Op, PlainOp};
 
-/// Whether a place is in the code.
+/// Returns whether a place is in the code.
 pub fn is_code(place: Option<Place>) -> bool
     ensures { result ≡ is_code place }
 {
     matches!(place, Some(Place::Node(_)))
 }
 
-/// Whether a place is a `prolog`.
+/// Returns whether a place is a `prolog`.
 pub fn is_entry(nodes: &NodeList, place: Option<Place>) -> bool
     ensures { result ≡ is_entry nodes.now.nodes place }
 {
@@ -27,14 +27,14 @@ pub fn is_entry(nodes: &NodeList, place: Option<Place>) -> bool
     }
 }
 
-/// The function of a node, by the table.
+/// Returns the function of a node, by the table.
 pub fn home_in(homes: &[Option<u32>], index: u32) -> Option<u32>
     ensures { (nodes : _) → AreHomes nodes homes.now → result ≡ home nodes index }
 {
     homes.get(index as usize).copied().flatten()
 }
 
-/// Whether a place is a node of a function behind its `prolog`.
+/// Returns whether a place is a node of a function after its `prolog`.
 pub fn is_inside(homes: &[Option<u32>], function: u32, place: Option<Place>) -> bool
     ensures { (nodes : _) → AreHomes nodes homes.now → result ≡ is_inside nodes function place }
 {
@@ -47,7 +47,7 @@ pub fn is_inside(homes: &[Option<u32>], function: u32, place: Option<Place>) -> 
     }
 }
 
-/// Whether a place is a node of some function behind its `prolog`.
+/// Returns whether a place is a node of some function after its `prolog`.
 pub fn is_inside_some(homes: &[Option<u32>], place: Option<Place>) -> bool
     ensures { (nodes : _) → AreHomes nodes homes.now → result ≡ is_inside_some nodes place }
 {
@@ -60,7 +60,7 @@ pub fn is_inside_some(homes: &[Option<u32>], place: Option<Place>) -> bool
     }
 }
 
-/// Whether an operation may have the address of a node as an immediate.
+/// Returns whether an operation may have the address of a node as an immediate.
 pub fn takes_address(op: Op) -> bool
     ensures { result ≡ takes_address op }
 {

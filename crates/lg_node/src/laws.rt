@@ -16,7 +16,7 @@ pub fn accepted_nodes_have_functions()
     ensures { (l : LabelledNodes) → IsAccepted l → HasFunctions l }
 {}
 
-/// The successors of a node of a function are nodes of the same function, behind its `prolog`.
+/// The successors of a node of a function are nodes of the same function, after its `prolog`.
 pub fn successors_stay()
     ensures { SuccessorsStay }
 {}
@@ -26,7 +26,7 @@ pub fn successors_enter()
     ensures { SuccessorsEnter }
 {}
 
-/// A label that is taken in a text is bound in a function behind its `prolog`.
+/// A label that is taken in a text is bound in a function after its `prolog`.
 pub fn taken_labels_are_inside()
     ensures { TakenLabelsAreInside }
 {}

@@ -31,7 +31,7 @@ impl Model for Locals {
 /// A local: the `allocai` that makes it, and where it lies.
 #[derive(Clone, Copy)]
 pub struct Local {
-    /// The `allocai`, which is appended in its function, behind those of the locals before it.
+    /// The `allocai`, which is appended in its function, after those of the locals before it.
     pub node: Node,
     /// The offset of its first byte from FP, as a word of 64 bits.
     pub offset: u64,
@@ -45,9 +45,9 @@ impl Locals {
         Locals { count: 0, bytes: 0 }
     }
 
-    /// Makes the next local, of so many bytes, from 1 to 65,536, which are rounded up to a multiple of 8: the first one lies that much below the 128 bytes
-    /// under FP, each further one that much below the one before. The line is the node's. None exactly where there are no bytes, or the locals would take more
-    /// than 65,536 of them, which `check` would refuse; then nothing changes.
+    /// Makes the next local, of this many bytes, from 1 to 65,536, which are rounded up to a multiple of 8: the first one lies that much below the 128 bytes
+    /// under FP, each further one that much below the one before. The line is the node's. None exactly where there are no bytes, or the locals would take
+    /// more than 65,536 of them, which `check` would refuse; then nothing changes.
     pub fn next(&mut self, size: u32, line: u32) -> Option<Local>
         ensures node { IfSome result (λ local. local.node ≡ allocai size self.old.count line) }
         ensures form { IfSome result (λ local. InForm local.node) }

@@ -39,7 +39,7 @@ impl Model for NodeList {
 }
 
 impl NodeList {
-    /// The list of no nodes and no labels. No memory is taken yet.
+    /// Returns the list of no nodes and no labels. No memory is taken yet.
     pub fn new(alloc: Global) -> NodeList
         ensures { result ≡ record { nodes = []; words = []; places = [] } }
     {
@@ -51,7 +51,7 @@ impl NodeList {
         }
     }
 
-    /// The list of no nodes and no labels, with memory for so many nodes.
+    /// Returns the list of no nodes and no labels, with memory for this many nodes.
     pub fn with_room(alloc: Global, nodes: u32) -> Result<NodeList, OutOfMemory>
         ensures { IfOk result (λ l. l ≡ record { nodes = []; words = []; places = [] }) }
     {
@@ -65,7 +65,7 @@ impl NodeList {
         })
     }
 
-    /// A list of the same nodes, with the same labels at the same places, in memory of its own.
+    /// Returns a list of the same nodes, with the same labels at the same places, in memory of its own.
     pub fn copy(&self, alloc: Global) -> Result<NodeList, OutOfMemory>
         ensures { IfOk result (λ l. l ≡ self.now) }
     {
@@ -98,21 +98,21 @@ impl NodeList {
         }
     }
 
-    /// How many nodes there are.
+    /// Returns how many nodes there are.
     pub fn len(&self) -> u32
         ensures { result ≡ length self.now.nodes }
     {
         self.nodes.len() as u32
     }
 
-    /// Whether there is no node.
+    /// Returns whether there is no node.
     pub fn is_empty(&self) -> bool
         ensures { IsTrue result ↔ (length self.now.nodes ≡ 0) }
     {
         self.nodes.len() == 0
     }
 
-    /// The node of an index, which is below `len`. It is in form.
+    /// Returns the node of an index, which is below `len`. It is in form.
     pub fn node(&self, index: u32) -> Node
         requires { index < length self.now.nodes }
         ensures node { Some result ≡ slice_get self.now.nodes index }
@@ -121,7 +121,7 @@ impl NodeList {
         self.nodes[index as usize]
     }
 
-    /// The node of an index, which is below `len`, where it stands. It is in form.
+    /// Returns the node of an index, which is below `len`, where it is. It is in form.
     #[inline]
     pub fn node_at(&self, index: u32) -> &Node
         requires { index < length self.now.nodes }
@@ -154,14 +154,14 @@ impl NodeList {
         }
     }
 
-    // Whether a label has this word.
+    // Returns whether a label has this word.
     fn has_word(&self, word: &[u8]) -> bool
         ensures { result ≡ is_mentioned self.now.words word.now }
     {
         self.words.contains(word)
     }
 
-    // The first number, from the count of labels on, whose word no label has.
+    // Returns the first number, from the count of labels on, whose word no label has.
     fn unused(&self) -> Option<u32>
         ensures { IfSome result (λ number. IsUnused self.now.words number) }
     {
@@ -189,7 +189,7 @@ impl NodeList {
         }
     }
 
-    /// How many labels there are.
+    /// Returns how many labels there are.
     pub fn labels(&self) -> u32
         ensures count { result ≡ length self.now.words }
         ensures places { length self.now.places ≡ length self.now.words }
@@ -209,7 +209,7 @@ impl NodeList {
         self.bindings.bind(label, place)
     }
 
-    /// The place at which a label, which is below `labels`, is bound, and None exactly where it is not bound. A place that is a node
+    /// Returns the place at which a label, which is below `labels`, is bound, or `None` exactly when it is not bound. A place that is a node
     /// is at most `len`.
     pub fn place(&self, label: Label) -> Option<Place>
         requires { label.0 < length self.now.words }
@@ -219,7 +219,7 @@ impl NodeList {
         self.bindings.place(label)
     }
 
-    /// The place at which a label is bound, and None exactly where it is not bound or there is no such label.
+    /// Returns the place at which a label is bound, or `None` exactly when it is not bound or there is no such label.
     pub fn place_of(&self, label: Label) -> Option<Place>
         ensures { result ≡ place_of self.now.places label }
     {
@@ -230,7 +230,7 @@ impl NodeList {
         }
     }
 
-    /// The first label that is bound at the node of an index, or behind the last, in the order of first mention. The index is at most `len`.
+    /// Returns the first label that is bound at the node of an index, or after the last, in the order of first mention. The index is at most `len`.
     pub fn first_at(&self, index: u32) -> Option<Label>
         requires { index ≤ length self.now.nodes }
         ensures found { IfSome result (λ l. NextAt self.now.places index 0 l.0) }
@@ -239,8 +239,8 @@ impl NodeList {
         self.bindings.first_at(index)
     }
 
-    /// The label that comes next at the node at which a label, which is below `labels` and bound at a node or behind the last, is bound,
-    /// in the order of first mention; None behind the last.
+    /// Returns the label that comes next at the node at which a label, which is below `labels` and bound at a node or after the last, is bound,
+    /// in the order of first mention; None after the last.
     pub fn next_at(&self, label: Label) -> Option<Label>
         requires label { label.0 < length self.now.words }
         requires bound { (i : ℕ) × IsTrue (is_at i (slice_index_or self.now.places label.0 None)) }
@@ -251,7 +251,7 @@ impl NodeList {
         self.bindings.next_at(label)
     }
 
-    /// The word of a label, which is below `labels`. It has the form of a word of a text.
+    /// Returns the word of a label, which is below `labels`. It has the form of a word of a text.
     pub fn word(&self, label: Label) -> &[u8]
         requires { label.0 < length self.now.words }
         ensures text { Some result.now ≡ slice_get self.now.words label.0 }

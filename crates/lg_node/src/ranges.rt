@@ -24,7 +24,7 @@ pub struct Ranges {
     pub numbers: Vec<Option<u32>>,
 }
 
-// The function that ends at a node, where this one is open.
+// Returns the function that ends at a node, where this one is open.
 fn ended(
     nodes: &NodeList,
     function: Option<u32>,
@@ -59,7 +59,7 @@ fn push_ended(functions: &mut Vec<Function>, ended: Option<Function>) -> Result<
     Ok(())
 }
 
-// The number of a node's function, where so many end before the node.
+// Returns the number of a node's function, where this many end before the node.
 fn number_in(ended: u32, function: Option<u32>) -> Option<u32>
     ensures { result ≡ number_in ended function }
 {
@@ -70,7 +70,7 @@ fn number_in(ended: u32, function: Option<u32>) -> Option<u32>
 }
 
 impl Ranges {
-    /// The functions of these nodes, which are accepted.
+    /// Returns the functions of these nodes, which are accepted.
     pub fn of(alloc: Global, nodes: &NodeList) -> Result<Ranges, OutOfMemory>
         requires { IsAccepted nodes.now }
         ensures { IfOk result (λ r. AreRanges nodes.now.nodes r) }

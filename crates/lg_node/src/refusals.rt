@@ -16,7 +16,7 @@ use crate::walk::{Walk, is_arg, is_mark, is_prolog, local_size};
 use lg_base::RefusalKind;
 use lg_op::{ControlOp, Form, LastOperand, Node, Op, Operand, PlainOp};
 
-/// Whether an operand is a label that nothing binds.
+/// Returns whether an operand is a label that nothing binds.
 pub fn is_missing(nodes: &NodeList, operand: Operand) -> bool
     ensures { result ≡ is_missing nodes.now.places operand }
 {
@@ -26,14 +26,14 @@ pub fn is_missing(nodes: &NodeList, operand: Operand) -> bool
     }
 }
 
-// Whether a node names a label that nothing binds.
+// Returns whether a node names a label that nothing binds.
 fn names_missing(nodes: &NodeList, operands: &[Operand]) -> bool
     ensures { result ≡ list_any (is_missing nodes.now.places) operands.now }
 {
     operands.iter().any(|operand| is_missing(nodes, *operand))
 }
 
-// Whether an operation may stand outside of every function.
+// Returns whether an operation may be outside of every function.
 fn may_stand_outside(op: Op, begun: bool) -> bool
     ensures { result ≡ may_stand_outside op begun }
 {
@@ -44,7 +44,7 @@ fn may_stand_outside(op: Op, begun: bool) -> bool
     }
 }
 
-/// Whether an operand leads where it may not.
+/// Returns whether an operand leads where it may not.
 pub fn is_astray(
     nodes: &NodeList,
     homes: &[Option<u32>],
@@ -69,21 +69,21 @@ pub fn is_astray(
     }
 }
 
-// Whether an operand is a label.
+// Returns whether an operand is a label.
 fn is_label(operand: Operand) -> bool
     ensures { result ≡ is_label operand }
 {
     matches!(operand, Operand::Label(_))
 }
 
-// Whether a node names a label.
+// Returns whether a node names a label.
 fn names_label(operands: &[Operand]) -> bool
     ensures { result ≡ list_any is_label operands.now }
 {
     operands.iter().any(|operand| is_label(*operand))
 }
 
-// Whether one of the operands leads where it may not, form by form.
+// Returns whether one of the operands leads where it may not, form by form.
 fn leads_astray(
     nodes: &NodeList,
     homes: &[Option<u32>],
@@ -107,7 +107,7 @@ fn leads_astray(
     }
 }
 
-// Whether one of the operands leads where it may not: most nodes name no label.
+// Returns whether one of the operands leads where it may not: most nodes name no label.
 fn goes_astray(
     nodes: &NodeList,
     homes: &[Option<u32>],
@@ -122,14 +122,14 @@ fn goes_astray(
     names_label(operands) && leads_astray(nodes, homes, home, op, forms, operands)
 }
 
-/// Whether an operation stands only where a call is being prepared.
+/// Returns whether an operation is only where a call is being prepared.
 pub fn needs_preparation(op: Op) -> bool
     ensures { result ≡ needs_preparation op }
 {
     matches!(op, Op::Control(ControlOp::Pusharg | ControlOp::Finish, _))
 }
 
-/// Whether an operation may not stand where a call is being prepared.
+/// Returns whether an operation may not be where a call is being prepared.
 pub fn breaks_preparation(op: Op) -> bool
     ensures { result ≡ breaks_preparation op }
 {
@@ -142,14 +142,14 @@ pub fn breaks_preparation(op: Op) -> bool
     )
 }
 
-/// Whether an operation is `ellipsis`.
+/// Returns whether an operation is `ellipsis`.
 pub fn is_ellipsis(op: Op) -> bool
     ensures { result ≡ is_ellipsis op }
 {
     matches!(op, Op::Plain(PlainOp::Ellipsis))
 }
 
-/// Whether an operation may not stand behind a function's own `ellipsis`, or only there.
+/// Returns whether an operation may not be after a function's own `ellipsis`, or only there.
 pub fn is_out_of_turn(varies: bool, op: Op) -> bool
     ensures { result ≡ is_out_of_turn varies op }
 {
@@ -160,7 +160,7 @@ pub fn is_out_of_turn(varies: bool, op: Op) -> bool
     }
 }
 
-// Whether an operation is out of place in the preparing of a call, or in a function with or without variable arguments.
+// Returns whether an operation is out of place in the preparing of a call, or in a function with or without variable arguments.
 fn is_bad_call(call: Option<Preparation>, varies: bool, labelled: bool, op: Op) -> bool
     ensures { result ≡ is_bad_call call varies labelled op }
 {
@@ -177,7 +177,7 @@ fn is_bad_call(call: Option<Preparation>, varies: bool, labelled: bool, op: Op) 
     }
 }
 
-// Whether an operation is the 17th argument of a function or of a call.
+// Returns whether an operation is the 17th argument of a function or of a call.
 fn is_too_many(args: u32, call: Option<Preparation>, op: Op) -> bool
     ensures { result ≡ is_too_many args call op }
 {
@@ -190,7 +190,7 @@ fn is_too_many(args: u32, call: Option<Preparation>, op: Op) -> bool
     }
 }
 
-// Whether a function has more than 65,536 bytes of locals with a local of this size.
+// Returns whether a function has more than 65,536 bytes of locals with a local of this size.
 fn is_too_big(locals: u32, size: u32) -> bool
     requires { locals + size < 2 ^ 32 }
     ensures { result ≡ is_too_big locals size }
@@ -198,7 +198,7 @@ fn is_too_big(locals: u32, size: u32) -> bool
     locals + size > 65_536
 }
 
-// Whether a label is bound at a node.
+// Returns whether a label is bound at a node.
 fn is_labelled(tables: &Tables, index: u32) -> bool
     ensures { (l : _) → AreTables l tables.now → index < length l.nodes → result ≡ is_labelled l.places index }
 {
@@ -209,8 +209,8 @@ fn is_labelled(tables: &Tables, index: u32) -> bool
         .unwrap_or(false)
 }
 
-/// Whether nothing refuses a node, as is seen at once: it computes, loads, stores or branches within a function, where no call is prepared, and
-/// names no label.
+/// Returns whether nothing refuses a node, as is seen at once: it computes, loads, stores or branches within a function, where no call is prepared, and names
+/// no label.
 pub(crate) fn is_quiet(walk: &Walk, op: Op, operands: &[Operand]) -> bool
     ensures { result ≡ is_quiet walk.now op operands.now }
 {
@@ -228,7 +228,7 @@ static KINDS: [RefusalKind; 7] = [
     RefusalKind::FrameTooBig,
 ];
 
-// Whether the node of an index is refused by a kind.
+// Returns whether the node of an index is refused by a kind.
 fn refuses(
     nodes: &NodeList,
     tables: &Tables,
@@ -263,7 +263,7 @@ fn refuses(
     }
 }
 
-// The first kind that refuses the node of an index.
+// Returns the first kind that refuses the node of an index.
 fn first_kind(
     nodes: &NodeList,
     tables: &Tables,

@@ -37,7 +37,7 @@ impl Model for Shape {
 }
 
 impl Shape {
-    /// The shape of these functions, where these labels are taken.
+    /// Returns the shape of these functions, where these labels are taken.
     pub(crate) fn from_ranges(ranges: Ranges, taken: Vec<bool>) -> Shape
         requires few { length ranges.functions.items < 2 ^ 32 }
         requires small { All IsSmall ranges.functions.items }
@@ -52,7 +52,7 @@ impl Shape {
         }
     }
 
-    /// The list of the labels that are taken.
+    /// Returns the list of the labels that are taken.
     pub(crate) fn clone_taken(&self, alloc: Global) -> Result<Vec<bool>, OutOfMemory>
         ensures { IfOk result (λ taken. taken.items ≡ self.now.taken) }
     {
@@ -74,14 +74,14 @@ impl Shape {
         })
     }
 
-    /// How many functions there are. They are numbered in the order of the text.
+    /// Returns how many functions there are. They are numbered in the order of the text.
     pub fn functions(&self) -> u32
         ensures { result ≡ length self.now.functions }
     {
         self.functions.len() as u32
     }
 
-    /// The first node of a function, which is below `functions`.
+    /// Returns the first node of a function, which is below `functions`.
     pub fn entry(&self, function: u32) -> u32
         requires { function < length self.now.functions }
         ensures { Some result ≡ option_map (λ f. f.entry) (slice_get self.now.functions function) }
@@ -89,7 +89,7 @@ impl Shape {
         self.functions[function as usize].entry
     }
 
-    /// The last node of a function, which is below `functions`.
+    /// Returns the last node of a function, which is below `functions`.
     pub fn last(&self, function: u32) -> u32
         requires { function < length self.now.functions }
         ensures { Some result ≡ option_map (λ f. f.last) (slice_get self.now.functions function) }
@@ -97,7 +97,7 @@ impl Shape {
         self.functions[function as usize].last
     }
 
-    /// The bytes of a function's locals, a multiple of 8 of at most 65,536. The function is below `functions`.
+    /// Returns the bytes of a function's locals, a multiple of 8 of at most 65,536. The function is below `functions`.
     pub fn locals(&self, function: u32) -> u32
         requires { function < length self.now.functions }
         ensures value { Some result ≡ option_map (λ f. f.locals) (slice_get self.now.functions function) }
@@ -107,7 +107,7 @@ impl Shape {
         self.functions[function as usize].locals
     }
 
-    /// The bytes of a function's frame, a multiple of 16 from 272 to 65,808. The function is below `functions`.
+    /// Returns the bytes of a function's frame, a multiple of 16 from 272 to 65,808. The function is below `functions`.
     pub fn frame(&self, function: u32) -> u32
         requires { function < length self.now.functions }
         ensures value { Some result ≡ option_map frame_of (slice_get self.now.functions function) }
@@ -118,7 +118,7 @@ impl Shape {
         (LEAST_FRAME + self.locals(function)).div_ceil(16) * 16
     }
 
-    /// The number of the function in which a node stands, and None exactly outside of each function.
+    /// Returns the number of the function in which a node stands, and None exactly outside of each function.
     pub fn function_of(&self, node: u32) -> Option<u32>
         ensures value { result ≡ function_of self.now.functions node }
         ensures within { IfSome result (λ f. f < length self.now.functions) }
@@ -126,7 +126,7 @@ impl Shape {
         self.numbers.get(node as usize).copied().flatten()
     }
 
-    /// Whether a label is taken: a `movi`, `pushargi` or `reti` of the text names it, and it was bound in a function behind its `prolog`.
+    /// Returns whether a label is taken: a `movi`, `pushargi` or `reti` of the text names it, and it was bound in a function after its `prolog`.
     pub fn taken(&self, label: Label) -> bool
         ensures { result ≡ slice_index_or self.now.taken label.0 false }
     {

@@ -21,7 +21,7 @@ pub struct Tables {
 }
 
 impl Tables {
-    /// The tables of these nodes.
+    /// Returns the tables of these nodes.
     pub fn of(alloc: Global, nodes: &NodeList) -> Result<Tables, OutOfMemory>
         ensures { IfOk result (λ t. AreTables nodes.now t) }
     {
@@ -31,7 +31,7 @@ impl Tables {
     }
 }
 
-/// The function of each node, by its `prolog`.
+/// Returns the function of each node, by its `prolog`.
 pub fn homes(alloc: Global, nodes: &NodeList) -> Result<Vec<Option<u32>>, OutOfMemory>
     ensures { IfOk result (λ homes. AreHomes nodes.now.nodes homes.items) }
 {

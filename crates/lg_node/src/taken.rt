@@ -54,7 +54,7 @@ fn named(alloc: Global, nodes: &NodeList) -> Result<Vec<bool>, OutOfMemory>
     Ok(marks)
 }
 
-// Whether a label is taken, by the tables.
+// Returns whether a label is taken, by the tables.
 fn is_taken(nodes: &NodeList, named: &[bool], homes: &[Option<u32>], label: u32) -> bool
     requires label { label < length nodes.now.places }
     requires named { AreNamed nodes.now named.now }

@@ -5,7 +5,7 @@ ghost use Rattle.lg_node.specs.Nodes.{is_word};
 ghost use Rattle.lg_base.specs.WordBytes.{is_word_byte};
 ghost use Rattle.lg_node.specs.Unused.{numbered, digit_of};
 
-// The decimal digit of a number at a power of ten.
+// Returns the decimal digit of a number at a power of ten.
 fn digit_of(number: u32, power: u32) -> u8
     requires { 0 < power }
     ensures value { result ≡ digit_of number power }
@@ -14,7 +14,7 @@ fn digit_of(number: u32, power: u32) -> u8
     b'0' + (number / power % 10) as u8
 }
 
-/// The word of a number: `_` and ten decimal digits. It has the form of a word of a text.
+/// Returns the word of a number: `_` and ten decimal digits. It has the form of a word of a text.
 pub fn numbered(number: u32) -> [u8; 11]
     ensures value { result ≡ numbered number }
     ensures word { IsTrue (is_word result) }

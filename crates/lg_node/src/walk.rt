@@ -27,35 +27,35 @@ pub struct Walk {
     pub varies: bool,
 }
 
-/// Whether an operation is `prolog`.
+/// Returns whether an operation is `prolog`.
 pub fn is_prolog(op: Op) -> bool
     ensures { result ≡ is_prolog op }
 {
     matches!(op, Op::Plain(PlainOp::Prolog))
 }
 
-/// Whether an operation is `epilog`.
+/// Returns whether an operation is `epilog`.
 pub fn is_epilog(op: Op) -> bool
     ensures { result ≡ is_epilog op }
 {
     matches!(op, Op::Plain(PlainOp::Epilog))
 }
 
-/// Whether an operation may change what is known within a function: it is a plain one, or a jump, a call or what is passed by one.
+/// Returns whether an operation may change what is known within a function: it is a plain one, or a jump, a call or what is passed by one.
 pub fn is_mark(op: Op) -> bool
     ensures { result ≡ is_mark op }
 {
     matches!(op, Op::Plain(_) | Op::Control(_, _))
 }
 
-/// Whether an operation is `arg`.
+/// Returns whether an operation is `arg`.
 pub fn is_arg(op: Op) -> bool
     ensures { result ≡ is_arg op }
 {
     matches!(op, Op::Plain(PlainOp::Arg))
 }
 
-/// The function of a node with an operation, where this one is open before it.
+/// Returns the function of a node with an operation, where this one is open before it.
 pub fn home_of(current: Option<u32>, index: u32, op: Op) -> Option<u32>
     ensures { result ≡ home_of current index op }
 {
@@ -66,7 +66,7 @@ pub fn home_of(current: Option<u32>, index: u32, op: Op) -> Option<u32>
     }
 }
 
-/// The bytes that the local of a node takes, a multiple of 8. The node is in form.
+/// Returns the bytes that the local of a node takes, a multiple of 8. The node is in form.
 pub fn local_size(node: &Node) -> u32
     requires { InForm node.now }
     ensures value { result ≡ local_size node.now }
@@ -79,7 +79,7 @@ pub fn local_size(node: &Node) -> u32
     }
 }
 
-// The call that is being prepared behind an operation.
+// Returns the call that is being prepared after an operation.
 fn prepared_behind(current: Option<Preparation>, op: Op) -> Option<Preparation>
     requires { pushed_of current ≤ 16 }
     ensures { result ≡ prepared_behind current op }
@@ -102,7 +102,7 @@ fn prepared_behind(current: Option<Preparation>, op: Op) -> Option<Preparation>
     }
 }
 
-// Whether the open function has variable arguments, behind an operation.
+// Returns whether the open function has variable arguments, after an operation.
 fn varies_behind(varies: bool, call: Option<Preparation>, op: Op) -> bool
     ensures { result ≡ varies_behind varies call op }
 {
@@ -113,7 +113,7 @@ fn varies_behind(varies: bool, call: Option<Preparation>, op: Op) -> bool
     }
 }
 
-/// The function that is open behind a node of this function.
+/// Returns the function that is open after a node of this function.
 pub fn open_behind(home: Option<u32>, op: Op) -> Option<u32>
     ensures { result ≡ open_behind home op }
 {
@@ -135,7 +135,7 @@ impl Walk {
         }
     }
 
-    // What is known behind the next node, which is in form: all is looked at.
+    // What is known after the next node, which is in form: all is looked at.
     fn past(self, index: u32, node: &Node) -> Walk
         requires form { InForm node.now }
         requires limits { IsWithinLimits self }
@@ -161,7 +161,7 @@ impl Walk {
         }
     }
 
-    // Goes behind the next node, which is in form: all is looked at.
+    // Moves past the next node, which is in form: all is looked at.
     #[inline(never)]
     fn pass_any(&mut self, index: u32, node: &Node)
         requires form { InForm node.now }
@@ -171,7 +171,7 @@ impl Walk {
         *self = self.past(index, node);
     }
 
-    /// Goes behind the next node, which is in form. Within a function only a mark changes what is known.
+    /// Moves past the next node, which is in form. Within a function only a mark changes what is known.
     #[inline(always)]
     #[tactic(auto, using(crate::proofs::MarkLemmas::unmarked))]
     pub fn pass(&mut self, index: u32, node: &Node)

@@ -225,7 +225,7 @@ long_again (Getarg value_type.UnsignedShort) h = absurd (false≢true h)
 long_again (Getarg value_type.Int) h = absurd (false≢true h)
 long_again (Getarg value_type.UnsignedInt) h = absurd (false≢true h)
 
--- a test of a word tells whether it names the operation
+-- a test of a word says whether it names the operation
 is_name_of : (op : Op) (word : List ℕ) → is_name op word ≡ true → IsName op word
 is_name_of op word e = by (bytes_eq word (name op)) (is_long op) (bytes_eq word (name op ++ codes "_l")) refl refl refl e
   where

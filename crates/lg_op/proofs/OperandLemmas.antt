@@ -25,7 +25,7 @@ pushed list len x is few =
     let Q : List Operand → Type 0 = λ l. IsOperands (more l (length (take len list)) x) in
     subst P same (subst Q whole (one_more (take len list) x (omega arith)))
 
--- behind the operands stands the number 0
+-- after the operands stands the number 0
 padded_at : (xs : List Operand) (n i : ℕ) (d : Operand) → i < length xs + n → slice_index_or (xs ++ unused n) i d ≡ slice_index_or xs i (operand.Number 0)
 padded_at [] zero i d lt = absurd (omega arith)
 padded_at [] (suc n) zero d lt = refl

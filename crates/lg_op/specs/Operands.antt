@@ -1,4 +1,4 @@
--- Registers by number, and the short list of a node's operands, and how it is held: 4 places, of which the last ones may be unused.
+-- Registers by number, and the short list of a node's operands, and how it is held: 4 places, the last ones of which may be unused.
 use Rattle.std.specs.Prelude.{◌≡◌, ℕ, zero, suc, ◌-◌, ◌≤◌, List, [], ◌∷◌, ◌++◌, length, take}
 use Rattle.lg_op.specs.declared.operand.Reg.{Reg}
 use Rattle.lg_op.specs.declared.operand.Reg.TheVariants.{R0, R1, R2, V0, V1, V2, Fp}
@@ -28,7 +28,7 @@ list_of o = take o.len o.list
 abbrev pub padded : List Operand → Inside
 padded xs = record { list = xs ++ unused (4 - length xs); len = length xs }
 
--- the list has its places, and no place behind it is used
+-- the list has its places, and no place after it is used
 pub record IsOperands (o : Inside) : Type 0 where
   pub few : o.len ≤ 4
   pub rest : padded (list_of o) ≡ o

@@ -39,7 +39,7 @@ partial_value binary.Rem a b = word_where (divides a b) (remainder_signed a b)
 partial_value binary.RemU a b = word_where (not (b == 0)) (remainder a b)
 partial_value op a b = None
 
--- the word of two words, or none where it is undefined: a shift is by its count modulo 64; the operations that set the carry stand below
+-- the word of two words, or none where it is undefined: a shift is by its count modulo 64; the operations that set the carry are below
 abbrev pub binary_value : BinaryOp → ℕ → ℕ → Option ℕ
 binary_value binary.Add a b = Some (add_words a b)
 binary_value binary.Sub a b = Some (sub_words a b)

@@ -6,7 +6,7 @@ ghost use Rattle.lg_op.specs.Forms.{forms_of, control_forms, plain_forms, addres
 use crate::op::{Addressing, ControlOp, LastOperand, Op, PlainOp};
 use crate::operand::{Operand, Reg};
 
-/// What may stand at an operand's place.
+/// What may be at an operand's place.
 #[derive(Clone, Copy, Debug, PartialEq, Eq)]
 pub enum Form {
     /// A register that is written: not FP.
@@ -35,7 +35,7 @@ pub enum Form {
     ArgumentCount,
 }
 
-// Whether a number is a power of two from 1 to 64.
+// Returns whether a number is a power of two from 1 to 64.
 fn is_alignment(number: u64) -> bool
     ensures { result ≡ is_alignment number }
 {
@@ -43,7 +43,7 @@ fn is_alignment(number: u64) -> bool
 }
 
 impl Form {
-    /// Whether an operand is of this form.
+    /// Returns whether an operand is of this form.
     pub fn admits(self, operand: Operand) -> bool
         ensures { result ≡ admits self operand }
     {
@@ -63,7 +63,7 @@ impl Form {
 }
 
 impl Op {
-    /// The forms of the operation's operands, in order.
+    /// Returns the forms of the operation's operands, in order.
     pub fn forms(self) -> &'static [Form]
         ensures { result.now ≡ forms_of self }
     {
@@ -102,7 +102,7 @@ impl Op {
 }
 
 impl ControlOp {
-    // The form of the one operand.
+    // Returns the form of the one operand.
     fn forms(self, last: LastOperand) -> &'static [Form]
         ensures { result.now ≡ control_forms self last }
     {
@@ -116,7 +116,7 @@ impl ControlOp {
 }
 
 impl Addressing {
-    // The forms of a load's operands, in order: the register comes first.
+    // Returns the forms of a load's operands, in order: the register comes first.
     fn load_forms(self) -> &'static [Form]
         ensures { result.now ≡ Form.Write ∷ address_forms self }
     {
@@ -128,7 +128,7 @@ impl Addressing {
         }
     }
 
-    // The forms of a store's operands, in order: the number of the address comes first.
+    // Returns the forms of a store's operands, in order: the number of the address comes first.
     fn store_forms(self) -> &'static [Form]
         ensures { result.now ≡ store_forms self }
     {
@@ -142,7 +142,7 @@ impl Addressing {
 }
 
 impl PlainOp {
-    // The forms of the operands, in order.
+    // Returns the forms of the operands, in order.
     fn forms(self) -> &'static [Form]
         ensures { result.now ≡ plain_forms self }
     {

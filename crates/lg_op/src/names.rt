@@ -11,7 +11,7 @@ use crate::op::{
 };
 use lg_base::Piece;
 
-// The letters of the name before the operand letter.
+// Returns the letters of the name before the operand letter.
 fn binary_stem(op: BinaryOp) -> &'static [u8]
     ensures { result.now ≡ binary_stem op }
 {
@@ -40,7 +40,7 @@ fn binary_stem(op: BinaryOp) -> &'static [u8]
     }
 }
 
-// The letters of the name before the operand letter.
+// Returns the letters of the name before the operand letter.
 fn wide_stem(op: WideOp) -> &'static [u8]
     ensures { result.now ≡ wide_stem op }
 {
@@ -50,7 +50,7 @@ fn wide_stem(op: WideOp) -> &'static [u8]
     }
 }
 
-// The letters of the name before the operand letter.
+// Returns the letters of the name before the operand letter.
 fn condition_stem(op: Condition) -> &'static [u8]
     ensures { result.now ≡ condition_stem op }
 {
@@ -66,7 +66,7 @@ fn condition_stem(op: Condition) -> &'static [u8]
     }
 }
 
-// The letters of the name before the operand letter.
+// Returns the letters of the name before the operand letter.
 fn branch_sum_stem(op: BranchSumOp) -> &'static [u8]
     ensures { result.now ≡ branch_sum_stem op }
 {
@@ -78,7 +78,7 @@ fn branch_sum_stem(op: BranchSumOp) -> &'static [u8]
     }
 }
 
-// The letters of the name before the operand letter.
+// Returns the letters of the name before the operand letter.
 fn control_stem(op: ControlOp) -> &'static [u8]
     ensures { result.now ≡ control_stem op }
 {
@@ -91,7 +91,7 @@ fn control_stem(op: ControlOp) -> &'static [u8]
     }
 }
 
-// The whole name.
+// Returns the whole name.
 fn unary_name(op: UnaryOp) -> &'static [u8]
     ensures { result.now ≡ unary_name op }
 {
@@ -111,7 +111,7 @@ fn unary_name(op: UnaryOp) -> &'static [u8]
     }
 }
 
-// The whole name.
+// Returns the whole name.
 fn plain_name(op: PlainOp) -> &'static [u8]
     ensures { result.now ≡ plain_name op }
 {
@@ -131,7 +131,7 @@ fn plain_name(op: PlainOp) -> &'static [u8]
     }
 }
 
-// The operand letter.
+// Returns the operand letter.
 fn last_middle(last: LastOperand) -> &'static [u8]
     ensures { result.now ≡ last_middle last }
 {
@@ -141,7 +141,7 @@ fn last_middle(last: LastOperand) -> &'static [u8]
     }
 }
 
-// The letters of the address.
+// Returns the letters of the address.
 fn addressing_middle(addressing: Addressing) -> &'static [u8]
     ensures { result.now ≡ addressing_middle addressing }
 {
@@ -153,7 +153,7 @@ fn addressing_middle(addressing: Addressing) -> &'static [u8]
     }
 }
 
-// The mark of an unsigned operation.
+// Returns the mark of an unsigned operation.
 fn binary_end(op: BinaryOp) -> &'static [u8]
     ensures { result.now ≡ binary_end op }
 {
@@ -169,7 +169,7 @@ fn binary_end(op: BinaryOp) -> &'static [u8]
     }
 }
 
-// The mark of an unsigned operation.
+// Returns the mark of an unsigned operation.
 fn wide_end(op: WideOp) -> &'static [u8]
     ensures { result.now ≡ wide_end op }
 {
@@ -179,7 +179,7 @@ fn wide_end(op: WideOp) -> &'static [u8]
     }
 }
 
-// The mark of an unsigned operation.
+// Returns the mark of an unsigned operation.
 fn condition_end(op: Condition) -> &'static [u8]
     ensures { result.now ≡ condition_end op }
 {
@@ -189,7 +189,7 @@ fn condition_end(op: Condition) -> &'static [u8]
     }
 }
 
-// The mark of an unsigned operation.
+// Returns the mark of an unsigned operation.
 fn branch_sum_end(op: BranchSumOp) -> &'static [u8]
     ensures { result.now ≡ branch_sum_end op }
 {
@@ -202,7 +202,7 @@ fn branch_sum_end(op: BranchSumOp) -> &'static [u8]
     }
 }
 
-// The mark of a type; `_l` is not written.
+// Returns the mark of a type; `_l` is not written.
 fn value_type_end(value_type: ValueType) -> &'static [u8]
     ensures { result.now ≡ value_type_end value_type }
 {
@@ -217,7 +217,7 @@ fn value_type_end(value_type: ValueType) -> &'static [u8]
     }
 }
 
-// The mark of a type; `_l` is not written.
+// Returns the mark of a type; `_l` is not written.
 fn store_type_end(store_type: StoreType) -> &'static [u8]
     ensures { result.now ≡ store_type_end store_type }
 {
@@ -230,7 +230,7 @@ fn store_type_end(store_type: StoreType) -> &'static [u8]
 }
 
 impl Op {
-    // The letters of the name before the operand letters.
+    // Returns the letters of the name before the operand letters.
     fn stem(self) -> &'static [u8]
         ensures { result.now ≡ stem_of self }
     {
@@ -249,7 +249,7 @@ impl Op {
         }
     }
 
-    // The operand letters.
+    // Returns the operand letters.
     fn middle(self) -> &'static [u8]
         ensures { result.now ≡ middle_of self }
     {
@@ -264,7 +264,7 @@ impl Op {
         }
     }
 
-    // The mark of an unsigned operation or of a type.
+    // Returns the mark of an unsigned operation or of a type.
     fn end(self) -> &'static [u8]
         ensures { result.now ≡ end_of self }
     {
@@ -280,7 +280,7 @@ impl Op {
         }
     }
 
-    /// The operation's name, as a listing prints it: without a type where the type is `_l`; `.align` for that node.
+    /// Returns the operation's name, as a listing prints it: without a type where the type is `_l`; `.align` for that node.
     pub fn name(self) -> Piece
         ensures value { result ≡ name self }
         ensures short { length result ≤ 14 }
@@ -292,7 +292,7 @@ impl Op {
         name
     }
 
-    /// The operation of a word: of its name, where the type of 8 bytes may be written `_l` or not at all. None exactly for every
+    /// Returns the operation of a word: of its name, where the type of 8 bytes may be written `_l` or not at all. None exactly for every
     /// word that names no operation.
     pub fn by_name(word: &[u8]) -> Option<Op>
         ensures found { IfSome result (λ op. IsName op word.now) }
@@ -302,14 +302,14 @@ impl Op {
     }
 }
 
-// The first byte of a word, and 0 where there is none.
+// Returns the first byte of a word, and 0 where there is none.
 fn first(word: &[u8]) -> u8
     ensures { result ≡ slice_index word.now 0 }
 {
     word.first().copied().unwrap_or(0)
 }
 
-// Whether a word is a name.
+// Returns whether a word is a name.
 #[inline(always)]
 fn is_same(word: &[u8], name: &[u8]) -> bool
     ensures { result ≡ bytes_eq word.now name.now }

@@ -20,7 +20,7 @@ pub struct Node {
 }
 
 impl Node {
-    /// Whether the operands are those of the operation's row in the instruction table, and the two results of `qmul`, `qdiv` and `va_arg` two
+    /// Returns whether the operands are those of the operation's row in the instruction table, and the two results of `qmul`, `qdiv` and `va_arg` two
     /// registers.
     pub fn is_in_form(&self) -> bool
         ensures { IsTrue result ↔ InForm self.now }
@@ -30,7 +30,7 @@ impl Node {
     }
 }
 
-// Whether operands are those of the forms, one by one.
+// Returns whether operands are those of the forms, one by one.
 fn admit(forms: &[Form], operands: &[Operand]) -> bool
     ensures { result ≡ admit forms.now operands.now }
 {
@@ -43,7 +43,7 @@ fn admit(forms: &[Form], operands: &[Operand]) -> bool
     }
 }
 
-// Whether an operation with two results has two registers for them.
+// Returns whether an operation with two results has two registers for them.
 fn is_apart(op: Op, operands: &[Operand]) -> bool
     ensures { IsTrue result ↔ IsApart op operands.now }
 {

@@ -271,7 +271,7 @@ pub enum Op {
     Unary(UnaryOp),
     /// An operation that comes in one form.
     Plain(PlainOp),
-    /// O1 = what stands at an address, by the type.
+    /// O1 = what is at an address, by the type.
     Load(ValueType, Addressing),
     /// The low bytes of the last operand go to an address.
     Store(StoreType, Addressing),

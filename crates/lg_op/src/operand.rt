@@ -36,7 +36,7 @@ pub enum Operand {
     Reg(Reg),
     /// A number, as a word of 64 bits; of a local, its offset.
     Number(u64),
-    /// A label, which stands for its address where it is an immediate.
+    /// A label, which denotes its address where it is an immediate.
     Label(Label),
     /// A function of the host.
     Host(HostName),
@@ -44,7 +44,7 @@ pub enum Operand {
     Slot(u32),
 }
 
-// What stands behind the last operand.
+// What is after the last operand.
 const UNUSED: Operand = Operand::Number(0);
 
 /// A list of at most 4 operands, held inline.
@@ -72,7 +72,7 @@ impl Model for Operands {
 }
 
 impl Operands {
-    /// The list of these operands, of which there are at most 4.
+    /// Returns the list of these operands (at most 4).
     pub fn of(list: &[Operand]) -> Operands
         requires { length list.now ≤ 4 }
         ensures { result ≡ list.now }
@@ -101,7 +101,7 @@ impl Operands {
         }
     }
 
-    /// The operand of a number below 4; behind the last one the number 0.
+    /// Returns the operand of a number below 4; after the last one the number 0.
     #[inline]
     pub fn at(&self, index: usize) -> &Operand
         requires { index < 4 }
@@ -110,7 +110,7 @@ impl Operands {
         &self.list[index]
     }
 
-    /// The operands.
+    /// Returns the operands.
     pub fn as_slice(&self) -> &[Operand]
         ensures value { result.now ≡ self.now }
         ensures room { length result.now ≤ 4 }
@@ -118,7 +118,7 @@ impl Operands {
         &self.list[..self.len]
     }
 
-    /// The list with one operand more. There are at most 3 before.
+    /// Returns the list with one operand more. There are at most 3 before.
     pub fn with(self, operand: Operand) -> Operands
         requires { length self < 4 }
         ensures { result ≡ self ++ operand ∷ [] }

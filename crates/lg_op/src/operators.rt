@@ -11,14 +11,14 @@ use lg_base::word::{
     shift_right_signed, sum_overflows_signed,
 };
 
-// Whether a signed quotient is a word.
+// Returns whether a signed quotient is a word.
 fn divides(a: u64, b: u64) -> bool
     ensures { result ≡ divides a b }
 {
     !(b == 0 || (a == SIGN_BIT && b == 0xFFFF_FFFF_FFFF_FFFF))
 }
 
-// The word of a quotient or a remainder, or None where it is undefined; None of the others.
+// Returns the word of a quotient or a remainder, or `None` if it is undefined; None of the others.
 #[inline(always)]
 fn partial(op: BinaryOp, a: u64, b: u64) -> Option<u64>
     ensures { result ≡ partial_value op a b }
@@ -32,8 +32,8 @@ fn partial(op: BinaryOp, a: u64, b: u64) -> Option<u64>
     }
 }
 
-/// The word of two words, for an operation with two operands and one result that sets no carry. A shift is by its count modulo 64. None
-/// where it is undefined: a zero divisor, and the signed quotient or remainder of the least word by -1; and for operations that set the carry.
+/// Returns the word of two words, for an operation with two operands and one result that sets no carry. A shift is by its count modulo 64. None where it is
+/// undefined: a zero divisor, and the signed quotient or remainder of the least word by -1; and for operations that set the carry.
 #[inline(always)]
 pub fn binary(op: BinaryOp, a: u64, b: u64) -> Option<u64>
     ensures { result ≡ binary_value op a b }
@@ -63,7 +63,7 @@ pub fn binary(op: BinaryOp, a: u64, b: u64) -> Option<u64>
     }
 }
 
-/// Whether an operation sets the carry: `addc`, `subc`, `addx` and `subx`.
+/// Returns whether an operation sets the carry: `addc`, `subc`, `addx` and `subx`.
 pub fn sets_carry(op: BinaryOp) -> bool
     ensures { result ≡ sets_carry op }
 {
@@ -73,7 +73,7 @@ pub fn sets_carry(op: BinaryOp) -> bool
     )
 }
 
-/// The carry that an operation takes: none for `addc` and `subc`, that of its own family for `addx` and `subx`; None where it is
+/// Returns the carry that an operation takes: none for `addc` and `subc`, that of its own family for `addx` and `subx`; None where it is
 /// undefined or of the other family.
 pub fn carry_in(op: BinaryOp, carry: Carry) -> Option<bool>
     ensures { result ≡ carry_in op carry }
@@ -86,14 +86,14 @@ pub fn carry_in(op: BinaryOp, carry: Carry) -> Option<bool>
     }
 }
 
-// Whether an operation with a carry adds.
+// Returns whether an operation with a carry adds.
 fn is_sum(op: BinaryOp) -> bool
     ensures { result ≡ is_sum op }
 {
     matches!(op, BinaryOp::Addc | BinaryOp::Addx)
 }
 
-/// The word of an operation that sets the carry: the sum with the carry, or the difference less the borrow, modulo 2^64.
+/// Returns the word of an operation that sets the carry: the sum with the carry, or the difference less the borrow, modulo 2^64.
 pub fn with_carry(op: BinaryOp, a: u64, b: u64, bit: bool) -> u64
     ensures { result ≡ value_with_carry op a b (if bit then 1 else 0) }
 {
@@ -104,7 +104,7 @@ pub fn with_carry(op: BinaryOp, a: u64, b: u64, bit: bool) -> u64
     }
 }
 
-/// The carry that `addc`, `addx`, `subc` and `subx` leave, for the carry `bit` that they take: that of the sum, or the borrow of the whole
+/// Returns the carry that `addc`, `addx`, `subc` and `subx` leave, for the carry `bit` that they take: that of the sum, or the borrow of the whole
 /// difference.
 pub fn carry_out(op: BinaryOp, a: u64, b: u64, bit: bool) -> Carry
     ensures { result ≡ carry_made op a b (if bit then 1 else 0) }
@@ -116,7 +116,7 @@ pub fn carry_out(op: BinaryOp, a: u64, b: u64, bit: bool) -> Carry
     }
 }
 
-/// Whether a condition holds of O2 and O3: whether the branch goes.
+/// Returns whether a condition holds of O2 and O3: whether the branch goes.
 #[inline(always)]
 pub fn holds(condition: Condition, a: u64, b: u64) -> bool
     ensures { result ≡ holds condition a b }
@@ -137,7 +137,7 @@ pub fn holds(condition: Condition, a: u64, b: u64) -> bool
     }
 }
 
-/// The wrapped sum or difference of a branch that adds or subtracts.
+/// Returns the wrapped sum or difference of a branch that adds or subtracts.
 pub fn branch_sum(op: BranchSumOp, a: u64, b: u64) -> u64
     ensures { result ≡ branch_sum_value op a b }
 {
@@ -153,7 +153,7 @@ pub fn branch_sum(op: BranchSumOp, a: u64, b: u64) -> u64
     }
 }
 
-/// Whether such a branch goes: where the exact result does not fit a word, or where it does.
+/// Returns whether such a branch goes: where the exact result does not fit a word, or where it does.
 pub fn branch_sum_goes(op: BranchSumOp, a: u64, b: u64) -> bool
     ensures { result ≡ branch_sum_goes op a b }
 {
@@ -169,7 +169,7 @@ pub fn branch_sum_goes(op: BranchSumOp, a: u64, b: u64) -> bool
     }
 }
 
-/// The two words of a product of 128 bits, low and high, or of a quotient and a remainder; None where these are undefined.
+/// Returns the two words of a product of 128 bits, low and high, or of a quotient and a remainder, or `None` if these are undefined.
 pub fn wide(op: WideOp, a: u64, b: u64) -> Option<(u64, u64)>
     ensures { result ≡ wide_value op a b }
 {
@@ -190,7 +190,7 @@ pub fn wide(op: WideOp, a: u64, b: u64) -> Option<(u64, u64)>
     }
 }
 
-/// What an operation makes of one word, O2.
+/// Returns what an operation makes of one word, O2.
 pub fn unary(op: UnaryOp, a: u64) -> u64
     ensures { result ≡ unary_value op a }
 {
@@ -210,14 +210,14 @@ pub fn unary(op: UnaryOp, a: u64) -> u64
     }
 }
 
-/// Whether an operation of one word keeps the carry, as `movr` does alone.
+/// Returns whether an operation of one word keeps the carry, as `movr` does alone.
 pub fn keeps_carry(op: UnaryOp) -> bool
     ensures { result ≡ keeps_carry op }
 {
     matches!(op, UnaryOp::Mov)
 }
 
-/// How many bytes a type reads.
+/// Returns how many bytes a type reads.
 pub fn width(value_type: ValueType) -> u32
     ensures value { result ≡ width value_type }
     ensures sizes { (result ≡ 1) ⊎ ((result ≡ 2) ⊎ ((result ≡ 4) ⊎ (result ≡ 8))) }
@@ -230,7 +230,7 @@ pub fn width(value_type: ValueType) -> u32
     }
 }
 
-/// The low 1, 2, 4 or 8 bytes of a word, by the type, extended to a word as the type says: by their sign, or by zeros.
+/// Returns the low 1, 2, 4 or 8 bytes of a word, by the type, extended to a word as the type says: by their sign, or by zeros.
 pub fn extended_by_type(value_type: ValueType, a: u64) -> u64
     ensures { result ≡ extended_by_type value_type a }
 {
@@ -245,7 +245,7 @@ pub fn extended_by_type(value_type: ValueType, a: u64) -> u64
     }
 }
 
-/// How many bytes a type writes.
+/// Returns how many bytes a type writes.
 pub fn store_width(store_type: StoreType) -> u32
     ensures value { result ≡ store_width store_type }
     ensures sizes { (result ≡ 1) ⊎ ((result ≡ 2) ⊎ ((result ≡ 4) ⊎ (result ≡ 8))) }

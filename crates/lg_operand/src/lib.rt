@@ -1,4 +1,4 @@
-//! The operands of instructions in a `.tst` text: what a word is at an operand's place, and where it may not stand.
+//! The operands of instructions in a `.tst` text: what a word is at an operand's place, and where it may not be.
 #![tactic(auto)]
 
 mod operand;

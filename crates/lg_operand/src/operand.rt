@@ -9,7 +9,7 @@ use lg_base::{HostName, RefusalKind};
 use lg_lex::TokenKind;
 use lg_op::{Form, Op, Operand, PlainOp};
 
-/// An operand, where its place admits it.
+/// Returns an operand, where its place admits it.
 pub fn admitted(form: Form, operand: Operand) -> Result<Operand, RefusalKind>
     ensures value { result ≡ admitted form operand }
     ensures form { IfOk result (λ x. admits form x ≡ true) }
@@ -21,7 +21,7 @@ pub fn admitted(form: Form, operand: Operand) -> Result<Operand, RefusalKind>
     }
 }
 
-/// The operand that the text of a register is.
+/// Returns the operand that the text of a register is.
 pub fn register_operand(form: Form, text: &[u8]) -> Result<Operand, RefusalKind>
     ensures value { result ≡ register_operand form text.now }
     ensures form { IfOk result (λ x. admits form x ≡ true) }
@@ -35,7 +35,7 @@ pub fn register_operand(form: Form, text: &[u8]) -> Result<Operand, RefusalKind>
     }
 }
 
-/// The operand that a host function is, where there is one.
+/// Returns the operand that a host function is, where there is one.
 pub fn host_operand(form: Form, name: Option<HostName>) -> Result<Operand, RefusalKind>
     ensures value { result ≡ host_operand form name }
     ensures form { IfOk result (λ x. admits form x ≡ true) }
@@ -46,7 +46,7 @@ pub fn host_operand(form: Form, name: Option<HostName>) -> Result<Operand, Refus
     }
 }
 
-/// The argument that a name stands for.
+/// Returns the argument that a name denotes.
 pub fn argument_named(meaning: Option<Operand>) -> Result<Operand, RefusalKind>
     ensures value { result ≡ argument_named meaning }
     ensures form { IfOk result (λ x. admits Form.Argument x ≡ true) }
@@ -57,7 +57,7 @@ pub fn argument_named(meaning: Option<Operand>) -> Result<Operand, RefusalKind>
     }
 }
 
-/// The offset of the local that a name stands for.
+/// Returns the offset of the local that a name denotes.
 pub fn local_named(meaning: Option<Operand>) -> Result<Operand, RefusalKind>
     ensures value { result ≡ local_named meaning }
     ensures form { IfOk result (λ x. admits Form.Immediate x ≡ true) }
@@ -68,7 +68,7 @@ pub fn local_named(meaning: Option<Operand>) -> Result<Operand, RefusalKind>
     }
 }
 
-// Whether operands are two registers that are not the same.
+// Returns whether operands are two registers that are not the same.
 fn differ(a: Operand, b: Operand) -> bool
     ensures { result ≡ differ a b }
 {
@@ -78,8 +78,8 @@ fn differ(a: Operand, b: Operand) -> bool
     }
 }
 
-/// Whether an operand may follow these: the second result of a product or quotient of two words, or of `va_arg`, goes to another register
-/// than the first.
+/// Returns whether an operand may follow these: the second result of a product or quotient of two words, or of `va_arg`, goes to another register than the
+/// first.
 pub fn stays_apart(op: Op, done: &[Operand], operand: Operand) -> bool
     ensures { result ≡ stays_apart op done.now operand }
 {
@@ -89,7 +89,7 @@ pub fn stays_apart(op: Op, done: &[Operand], operand: Operand) -> bool
     }
 }
 
-/// The size of the local that `allocai` makes, which its first operand gives.
+/// Returns the size of the local that `allocai` makes, which its first operand gives.
 pub fn local_size(done: &[Operand]) -> u64
     ensures size { result ≡ local_size done.now }
     ensures most { result ≤ 65536 }
@@ -100,7 +100,7 @@ pub fn local_size(done: &[Operand]) -> u64
     }
 }
 
-/// A text behind its mark, which is its first byte.
+/// Returns a text after its mark, which is its first byte.
 pub fn behind_mark(text: &[u8]) -> &[u8]
     ensures { result.now ≡ drop 1 text.now }
 {

@@ -17,7 +17,7 @@ static REGISTERS: [Reg; 7] = [
     Reg::Fp,
 ];
 
-/// The text of a register.
+/// Returns the text of a register.
 pub fn register_word(register: Reg) -> &'static [u8]
     ensures { result.now ≡ register_word register }
 {
@@ -32,7 +32,7 @@ pub fn register_word(register: Reg) -> &'static [u8]
     }
 }
 
-/// The register of a text, and None where it is none of the seven.
+/// Returns the register of a text, or `None` if it is none of the seven.
 pub fn register_of(word: &[u8]) -> Option<Reg>
     ensures { result ≡ register_of word.now }
 {
@@ -42,21 +42,21 @@ pub fn register_of(word: &[u8]) -> Option<Reg>
         .find(|register| word == register_word(*register))
 }
 
-// Whether all bytes are decimal digits.
+// Returns whether all bytes are decimal digits.
 fn all_digits(bytes: &[u8]) -> bool
     ensures { result ≡ list_all is_ascii_digit bytes.now }
 {
     bytes.iter().all(|byte| byte.is_ascii_digit())
 }
 
-// Whether there is a byte, and all are decimal digits.
+// Returns whether there is a byte, and all are decimal digits.
 fn are_digits(bytes: &[u8]) -> bool
     ensures { result ≡ are_digits bytes.now }
 {
     !bytes.is_empty() && all_digits(bytes)
 }
 
-/// Whether the text of a register names a floating-point one: `%f` with digits.
+/// Returns whether the text of a register names a floating-point one: `%f` with digits.
 pub fn is_float_register(word: &[u8]) -> bool
     ensures { result ≡ is_float_register word.now }
 {

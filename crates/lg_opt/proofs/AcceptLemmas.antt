@@ -83,7 +83,7 @@ module _ (l : LabelledNodes) (stays : ℕ → Bool) (targets : ℕ → Option La
   entry-moved (Some (place.Image k)) e = cc
   entry-moved (Some (place.Node k)) e = prolog-moved k e
 
-  -- a node behind the `prolog` of a function comes to one of that function
+  -- a node after the `prolog` of a function reaches one of that function
   pub inside-moved : (k p : ℕ) → home l.nodes k ≡ Some p → p < k → home (rewritten l stays targets).nodes (new_number stays k) ≡ Some (new_number stays p)
   inside-moved k p h lt = ⊎_elim was-open (λ (b : Begins l.nodes k p). absurd (omega (arith, b.here))) (home_cases l.nodes k p h)
     where

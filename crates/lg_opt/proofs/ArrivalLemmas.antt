@@ -1,4 +1,4 @@
--- Where branches, jumps, calls and returns arrive: at the next node, at a label, or behind the call that they return to.
+-- Where branches, jumps, calls and returns arrive: at the next node, at a label, or after the call that they return to.
 use Rattle.std.proofs.Common.{◌≡◌, ◌⊎◌, inl, inr, ℕ, ◌+◌, Bool, true, false, List, [], ◌∷◌, Option, Some, None, length, refl, sym, ap, ◌∙◌, subst}
 use Rattle.std.specs.Prelude.{slice_get, slice_index_or}
 use Rattle.std.proofs.lemmas.Bool.{eqb-true}
@@ -129,7 +129,7 @@ module _ (l : LabelledNodes) (shape : TextShape) (A : List ℕ) (a : IsAccepted 
   admitted : {o : Op} → n.op ≡ o → admit (forms_of o) n.operands ≡ true
   admitted e = ap (λ o. admit (forms_of o) n.operands) (sym e) ∙ formed.forms
 
-  -- each operation that leaps
+  -- each operation that transfers control
   leap : (o : Op) → n.op ≡ o → leaps o ≡ true → OnGoes (Arrives l s) (node_step t n o s)
   leap (op.Branch c last) e h =
       let labelled = target-labelled (form.Read ∷ last_form last ∷ []) (admitted e) (ap has_target e) in

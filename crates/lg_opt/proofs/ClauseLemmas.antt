@@ -110,7 +110,7 @@ module _ (l : LabelledNodes) (shape : TextShape) (is : IsShapeOf l shape) (forme
     threaded-runs = subst (λ (x : LabelledNodes). RunsAreThreaded l shape x new_shape) (sym d.nodes)
         (λ size A sp image args stack are. are-threaded l shape is formed d.targets d.are new_shape (subst (λ (x : LabelledNodes). new_shape.functions ≡ functions x.nodes) d.nodes d.shaped.functions) d.taken A size are sp image args stack)
 
--- two rewritings, one behind the other
+-- two rewritings, one after the other
 abbrev pub Joined : (Node → Node → Type 0) → (Node → Node → Type 0) → Node → Node → Type 0
 Joined First Second old n = (middle : Node) × First old middle × Second middle n
 
@@ -147,7 +147,7 @@ module _ (First Second : Node → Node → Type 0) (l m n : LabelledNodes) (firs
         (o.0, ap (slice_get l.nodes) (mapped k y) ∙ o.1, (c.0, o.2, c.2));
   }
 
-  -- a node that may not go is there behind both
+  -- a node that may not go is there after both
   pub others-join : (goes : Op → Bool) → ((old middle : Node) → First old middle → goes old.op ≡ false → goes middle.op ≡ false) → KeepsOthers goes l first → KeepsOthers goes m second → KeepsOthers goes l (map (slice_index first) second)
   others-join goes still f s i x e may =
       let p = f i x e may in

@@ -94,7 +94,7 @@ module _ (l : LabelledNodes) where
       by None e = refl
       by (Some n) e = let k = idle-there i n e s in ap leaps (move-is n.op n.operands k.move k.is).0
 
-  -- no sources behind a leap, and at a label
+  -- no sources after a transfer of control, and at a label
   fresh-behind : (i : ℕ) (n : Node) → slice_get l.nodes i ≡ Some n → leaps n.op ≡ true → sources_before l (i + 1) ≡ no_sources
   unfolding sources_before
   fresh-behind i n e h =
@@ -221,7 +221,7 @@ module _ (l : LabelledNodes) where
       stepped : AreStepped p Good (Dropped nu) (λ s k. stays l s.at)
       stepped = record { meets = meets; rests = rests }
 
-      -- what leaps stays
+      -- what transfers control stays
       leaps-stay : (i : ℕ) → leaps_at (slice_get l.nodes i) ≡ true → (stays l i ≡ true) × (leaps_at (slice_get m.nodes (nu i)) ≡ true)
       leaps-stay i e = by (slice_get l.nodes i) (stays l i) refl refl e
         where

@@ -1,4 +1,4 @@
--- Runs of nodes of which some were dropped.
+-- Runs of nodes some of which were dropped.
 use Rattle.std.proofs.Common.{◌≡◌, ◌≢◌, ℕ, suc, Bool, false, [], refl, sym, ap, ◌∙◌, add-one}
 use Rattle.std.specs.Prelude.{slice_get}
 use Rattle.lg_base.specs.Runs.{Status, Running, Ended, Bad}
@@ -56,7 +56,7 @@ module _ (p : Pair) (keeps : ℕ → Bool) (number : ℕ → ℕ) (Good : State 
     falls = falls;
   }
 
-  -- and they have one memory, where states that stand for each other have
+  -- and they have one memory, where states that correspond to each other have
   pub drops-look : ((s m : State) → R s m → memory_in m ≡ memory_in s)
       → LooksAlike (machine p.old p.old_shape p.addresses) (machine p.new p.new_shape p.addresses) (run_at s0 []) (run_at m0 []) (moves_made p (λ s m. keeps s.at) s0 m0) memory_of memory_of
   drops-look same = runs-look p Good R (λ s m. keeps s.at) step-ok s0 m0 good alike memory_in same

@@ -1,4 +1,4 @@
--- Dropped nodes and threaded jumps, one behind the other.
+-- Dropped nodes and threaded jumps, one after the other.
 use Rattle.std.proofs.Common.{◌≡◌, ◌≢◌, ℕ, zero, suc, ◌+◌, ◌-◌, ◌<◌, ◌≤◌, Bool, true, false, cond, ◌⊎◌, inl, inr, refl, sym, ap, ◌∙◌, subst, arith, ⊎_elim}
 use Rattle.std.proofs.lemmas.Bool.{cases_lt, false≢true}
 use Rattle.lg_base.specs.Runs.{Running, Bad, Machine, iter, IsMachine}
@@ -49,7 +49,7 @@ module _ {P M N : Type 0} (old : Machine P) (mid : Machine M) (new : Machine N) 
       subst (λ v. j1 x < j1 v) z (⊎_elim (λ l. l) (λ e. let e' : at (p-at y) ≡ at (p-at x) + (y - x) = subst (λ v. at (p-at v) ≡ at (p-at x) + (y - x)) z e in absurd (omega arith)) (raised (y - x) x (subst (λ v. old.status (p-at v) ≡ Running) (sym z) run)))
 
   module _ (jump leap : ℕ → Bool) (is-loud : N → Bool) (threads : Threads mid new m0 n0 j2 place jump leap is-loud) (quiet : JumpsQuietly mid place jump) where
-    -- the middle run is looked at one step early where it stands at a jump before which nodes were dropped
+    -- the middle run is looked at one step early where it is at a jump before which nodes were dropped
     abbrev pub early : ℕ → ℕ
     early zero = 0
     early (suc k) = cond (jump (place (m-at k))) (suc (j1 k)) (j1 (suc k))

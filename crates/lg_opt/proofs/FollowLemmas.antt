@@ -96,7 +96,7 @@ module _ {P N Q : Type 0} (old : Machine P) (new : Machine N) (processor : Machi
     abbrev rank : ℕ → ℕ
     rank k = rank_of silent nodes k
 
-    -- the old run after k steps, with the new run that stands for a state of the processor
+    -- the old run after k steps, with the new run that corresponds to a state of the processor
     record StandsBy (p : P) (q : Q) (r : ℕ) : Type 0 where
       k : ℕ
       is : p ≡ p-at k

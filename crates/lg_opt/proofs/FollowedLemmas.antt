@@ -1,4 +1,4 @@
--- Nodes of which some were dropped, and then threaded.
+-- Nodes some of which were dropped, and then threaded.
 use Rattle.std.proofs.Common.{◌≡◌, ℕ, true, [], List, refl, sym, ap, ◌∙◌, append-nil}
 use Rattle.std.specs.Prelude.{slice_get}
 use Rattle.lg_base.specs.Runs.{Status, Running, Ended, Bad}

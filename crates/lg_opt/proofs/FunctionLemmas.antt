@@ -27,7 +27,7 @@ use Rattle.lg_opt.proofs.RemainingLemmas.{number-zero, number-stays, number-goes
 use Rattle.lg_opt.proofs.MovedLemmas.{same-op, same-size, new-count, stands}
 use Rattle.lg_opt.proofs.ShapeLemmas.{goes-no-epilog, locals-moved, home-moved}
 
--- places in a list of which each element was replaced
+-- places in a list each of whose elements was replaced
 position-map : {A B : Type 0} (p : A → Bool) (q : B → Bool) (f : A → B) (xs : List A) → All (λ x. q (f x) ≡ p x) xs → position_or_len q (map f xs) ≡ position_or_len p xs
 position-map p q f [] all = refl
 position-map p q f (x ∷ xs) all =
@@ -160,7 +160,7 @@ module _ (l : LabelledNodes) (stays : ℕ → Bool) (targets : ℕ → Option La
           ap (λ b. b && nat_le (nu k) (nu f.last)) (le-leb (nu f.entry) (nu k) (number-le stays f.entry k from)) ∙ le-leb (nu k) (nu f.last) (number-le stays k f.last to)
           ∙ sym (ap (λ b. b && nat_le k f.last) e ∙ e')
 
-      -- the function of a node has ended before one that begins behind it
+      -- the function of a node has ended before one that begins after it
       before : k < f.entry → nu k < nu f.entry
       before lt =
           let one = has.numbers k p h in

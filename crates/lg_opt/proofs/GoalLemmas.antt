@@ -41,7 +41,7 @@ module _ (l : LabelledNodes) (within : JumpsWithin l) where
   inside i zero lt = lt
   inside i (suc m) lt = within (from i m) (inside i m lt)
 
-  -- where two of the jumps stand at one node, and all between are jumps, they turn for ever
+  -- where two of the jumps are at one node, and all between are jumps, they turn for ever
   again : (i x y : ℕ) → x < y → from i x ≡ from i y → ((k : ℕ) → x ≤ k → k < y → jump_at l (from i k) ≡ true) → (d : ℕ) → (k : ℕ) → k ≤ d → (e : ℕ) × (x ≤ e) × (e < y) × (from i (x + k) ≡ from i e)
   again i x y lt same all zero k le = (x, omega arith, lt, (let z : x + k ≡ x = omega arith in ap (from i) z))
   again i x y lt same all (suc d) zero le = (x, omega arith, lt, (let z : x + 0 ≡ x = omega arith in ap (from i) z))

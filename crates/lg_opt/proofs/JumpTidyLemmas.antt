@@ -162,7 +162,7 @@ module _ (l : LabelledNodes) (a : IsAccepted l) (formed : All InForm l.nodes) (t
           let z : length l.nodes - suc (length l.nodes - suc d) ≡ d = omega arith in
           inr (ap (λ k. not (is_dropped l (length l.nodes - suc d) (next_stays l k))) z ∙ ap not e)
 
-  -- the first node behind one that stays, or the place behind the last
+  -- the first node after one that stays, or the place after the last
   abbrev next : ℕ → ℕ
   next i = next_stays l (length l.nodes - suc i)
 

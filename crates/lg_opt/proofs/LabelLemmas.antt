@@ -47,7 +47,7 @@ module _ (stays : ℕ → Bool) where
   abbrev nu : ℕ → ℕ
   nu = new_number stays
 
-  -- up to a node, the labels that come to its new number are those of it and of the dropped ones before it
+  -- up to a node, the labels that are moved to its new number are those of it and of the dropped ones before it
   below : (k i : ℕ) → k ≤ i → (nu k == nu i) ≡ at-from stays (Some (place.Node k)) i
   below k zero le = let z : k ≡ 0 = omega arith in subst (λ j. (nu j == nu 0) ≡ (j == 0)) (sym z) (eq-eqb (nu 0) (nu 0) refl ∙ sym (eq-eqb 0 0 refl))
   below k (suc i) le = ⊎_elim same (λ ne. by (stays i) refl ne (λ z. below k i z)) (cases_eq k (suc i))

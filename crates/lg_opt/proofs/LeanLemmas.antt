@@ -21,7 +21,7 @@ pub record KeepsNodes (l m : LabelledNodes) : Type 0 where
   pub labels : (i : ℕ) → i < length l.nodes → stays l i ≡ true → is_labelled m.places (new_number (stays l) i) ≡ labelled_from l.places (stays l) i
   pub count : length m.nodes ≡ new_number (stays l) (length l.nodes)
 
--- the sources behind the node before one
+-- the sources after the node before one
 abbrev behind-last : LabelledNodes → ℕ → Reg → Option Reg
 behind-last m zero = no_sources
 behind-last m (suc q) = behind_at (sources_before m q) (slice_get m.nodes q)

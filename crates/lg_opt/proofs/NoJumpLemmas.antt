@@ -1,4 +1,4 @@
--- Nodes of which none jumps: nothing is threaded.
+-- Nodes none of which jumps: nothing is threaded.
 use Rattle.std.proofs.Common.{◌≡◌, ℕ, zero, suc, ◌-◌, ◌<◌, ◌≤◌, Bool, true, false, not, ◌&&◌, List, [], Option, Some, None, length, replicate, refl, sym, ap, ◌∙◌, arith}
 use Rattle.std.specs.Prelude.{if◌then◌else◌, nat_lt, nat_le, slice_get}
 use Rattle.std.proofs.lemmas.List.{length-replicate, get_or-replicate}

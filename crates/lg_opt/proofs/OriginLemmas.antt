@@ -1,4 +1,4 @@
--- The numbers of the nodes that stay, and addresses of labels, behind a rewriting.
+-- The numbers of the nodes that stay, and addresses of labels, after a rewriting.
 use Rattle.std.proofs.Common.{◌≡◌, ⊎_elim, ℕ, zero, suc, ◌+◌, ◌<◌, ◌≤◌, Bool, true, false, cond, List, [], ◌++◌, Option, Some, None, length, refl, sym, ap, ◌∙◌, subst, arith}
 use Rattle.std.specs.Prelude.{slice_get, slice_index}
 use Rattle.std.specs.List.{All}

@@ -144,7 +144,7 @@ module _ (f : Option Place → Option Place) (old now : List (Option Place)) (i 
       (λ t. get_or-set_other now i k q None t.1 ∙ rest k (omega arith) less)
       (eqb_tells k i)
 
--- labels that stand within so many nodes
+-- labels that are within this many nodes
 pub moved-same : (f g : ℕ → ℕ) (n : ℕ) → ((k : ℕ) → k ≤ n → f k ≡ g k) → (ps : List (Option Place)) → All (MayStand n) ps → map (moved_place f) ps ≡ map (moved_place g) ps
 moved-same f g n h [] all = refl
 moved-same f g n h (p ∷ ps) all = ap (λ x. x ∷ map (moved_place f) ps) (one p (All-head (MayStand n) p ps all)) ∙ ap (λ xs. moved_place g p ∷ xs) (moved-same f g n h ps (All-tail (MayStand n) p ps all))

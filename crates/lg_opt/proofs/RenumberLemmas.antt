@@ -29,7 +29,7 @@ module _ (test : ℕ → ℕ → Bool) (places : List (Option Place)) (A : List 
   landing-is : (x k : ℕ) → slice_get places x ≡ Some (Some (place.Node k)) → landing test places A w x ≡ (if (slice_index A x == w) && test x k then Some k else None)
   landing-is x k e = rw e refl
 
-  -- a label of which the word is the address
+  -- a label whose word is the address
   pub record LandsAt (x k : ℕ) : Type 0 where
     pub bound : slice_get places x ≡ Some (Some (place.Node k))
     pub passes : test x k ≡ true
@@ -49,7 +49,7 @@ module _ (test : ℕ → ℕ → Bool) (places : List (Option Place)) (A : List 
       by (Some (Some (place.Image i))) e = let no : ◌≡◌ {A = Option ℕ} None (Some k) = rw e at h in cc
       by (Some (Some (place.Node i))) e = node (slice_index A x == w) (test x i) i e refl refl (sym (landing-is x i e) ∙ h)
 
-  -- and one of so many labels is the last such one
+  -- and one of n labels is the last such one
   pub record LastAt (n k : ℕ) : Type 0 where
     pub label : ℕ
     pub below : label < n
@@ -159,7 +159,7 @@ module _ (l : LabelledNodes) (stays : ℕ → Bool) (targets : ℕ → Option La
   abbrev u : Text
   u = record { addresses = A; places = m.places; functions = functions m.nodes; taken = taken }
 
-  -- nodes of a function behind its `prolog`
+  -- nodes of a function after its `prolog`
   behind-same : (f : Function) (k : ℕ) → stays f.entry ≡ true → stays f.last ≡ true → is_behind (Some (moved_function nu f)) (nu k) ≡ is_behind (Some f) k
   behind-same f k first last =
       ap (λ b. b && nat_le (nu k) (nu f.last)) (⊎_elim

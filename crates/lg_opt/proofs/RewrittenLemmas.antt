@@ -73,7 +73,7 @@ rewritten-agrees P c before l shape sp image args q n machine nodes followed ins
     (run_at (start_state_at sp image args) []) (run_at (start_state_at sp image args) []) q (length l.nodes) n followed.0 inside
     (alike _ (λ (r : Run). r.state) P c before ok) (carry-loud _ (λ (r : Run). r.state) P c before ok) refl (refl, st)
 
--- where the old run stands after k steps, the new one stands after j k
+-- where the old run is after k steps, the new one is after j k
 followed-paced : {Q : Type 0} (P : Processor Q) (l : LabelledNodes) (shape : TextShape) (m : LabelledNodes) (new_shape : TextShape) (addresses : List ℕ) (sp : ℕ) (image args : List ℕ) (q : Q)
     (f : NodesAreFollowed l shape m new_shape addresses sp image args) → RemembersAlike l shape m new_shape addresses sp image args f.j
     → KeepsPace (mean.machine m new_shape addresses) P.machine (AlikeInMemory (λ r. r.state) P) (run_at (start_state_at sp image args) []) q

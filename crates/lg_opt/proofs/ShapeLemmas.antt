@@ -25,7 +25,7 @@ use Rattle.lg_opt.specs.Remaining.{new_number, retargeted, rewritten, may_go, Is
 use Rattle.lg_opt.proofs.RemainingLemmas.{number-zero, number-stays, number-goes}
 use Rattle.lg_opt.proofs.MovedLemmas.{same-op, same-size, stands}
 
--- what is known behind an operation with a local of this size
+-- what is known after an operation with a local of this size
 abbrev after : Option ℕ → Walk → Op → ℕ → Walk
 after f w p size = record {
   function = f;

@@ -54,7 +54,7 @@ module _ {P N : Type 0} (old : Machine P) (new : Machine N) (p0 : P) (n0 : N) (j
     still : (k : ℕ) → x < k → k ≤ y → IsLoudAt new n0 j is-loud k → ⊥
     still k a b l = calm k (quiet k (omega arith) (omega arith)) l
 
-    -- over one step between, the new run stays, where the old stands at a jump, or goes on to the next node
+    -- over one step between, the new run stays, where the old is at a jump, or goes on to the next node
     step : (k : ℕ) → x < k → k < y → (jump (o-at k) ≡ false × (n-at (suc k) ≡ suc (n-at k))) ⊎ (jump (o-at k) ≡ true × (n-at (suc k) ≡ n-at k))
     step k a b = by (jump (o-at k)) (leap (o-at k)) (turning (o-at k)) (stays (o-at k)) refl refl refl refl
       where
@@ -77,7 +77,7 @@ module _ {P N : Type 0} (old : Machine P) (new : Machine N) (p0 : P) (n0 : N) (j
     mounts : (k l : ℕ) → x < k → k ≤ l → l ≤ y → n-at k ≤ n-at l
     mounts k l a b c = let z : k + (l - k) ≡ l = omega arith in subst (λ i. n-at k ≤ n-at i) z (mount (l - k) k a (omega arith))
 
-    -- another node than a jump cannot be left and come to again
+    -- another node than a jump cannot be left and reached again
     at-plain : jump (o-at y) ≡ false → ⊥
     at-plain c = by (leap (o-at y)) refl
       where

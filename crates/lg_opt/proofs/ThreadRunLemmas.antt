@@ -78,7 +78,7 @@ module _ (p : Pair) (h : Threaded) (th : IsThreadedBy p h) where
           (subst (λ o. Meets R (node_step t n n.op s) (step_at u o (over h.number s (h.number s.at) a.bit a.result))) (sym w.here)
           (steps-meet t u h.number (Lands p.old h) s (th.renumbers s.at st) a.bit a.result a.carries a.answers n w.node w.rewritten))
 
-  -- where the new run stands at another node than the number, it stands already where the jump leads
+  -- where the new run is at another node than the number, it is already where the jump leads
   elsewhere : (k n : ℕ) → Lands p.old h k n → n ≢ h.number k → n ≡ h.goal k
   elsewhere k n (inl e) ne = absurd (ne e)
   elsewhere k n (inr e) ne = e.2
@@ -95,7 +95,7 @@ module _ (p : Pair) (h : Threaded) (th : IsThreadedBy p h) where
   at-of : (s m : State) (a : R s m) → m.at ≡ a.at
   at-of s m a = ap (λ x. x.at) a.is
 
-  -- where the new run rests at a jump that does not turn, it stands where the jump leads
+  -- where the new run rests at a jump that does not turn, it is where the jump leads
   at-goal : (s m : State) (a : R s m) → jump_at p.old s.at ≡ true → h.turns s.at ≡ false → (h.stays s.at && (m.at == h.number s.at)) ≡ false → a.at ≡ h.goal s.at
   at-goal s m a e f g = by (h.stays s.at) refl (eqb_tells m.at (h.number s.at)) g
     where
@@ -175,7 +175,7 @@ module _ (p : Pair) (h : Threaded) (th : IsThreadedBy p h) where
             missing : {n : Node} → slice_get p.old.nodes (at k) ≡ Some n → slice_get p.old.nodes (at k) ≡ None → ⊥
             missing a b = cc
 
-    -- where both stand at one node, the new node has the operation of the old one
+    -- where both are at one node, the new node has the operation of the old one
     module _ (k : ℕ) (run : (o-at k).status ≡ Running) (st : h.stays (at k) ≡ true) (here : (n-at (j k)).state.at ≡ h.number (at k)) where
       old-node : Node
       old-node = (node-here k).0
@@ -202,7 +202,7 @@ module _ (p : Pair) (h : Threaded) (th : IsThreadedBy p h) where
     n-next : (i : ℕ) → n-at (suc i) ≡ run_step (new_step p) (n-at i)
     n-next i = iter-suc (run_step (new_step p)) i (run_at m0 [])
 
-    -- the old run behind a jump
+    -- the old run after a jump
     behind-jump : (k : ℕ) → (o-at k).status ≡ Running → jump_at p.old (at k) ≡ true → at (suc k) ≡ hop p.old (at k)
     behind-jump k run e = ap (λ r. r.state.at) (o-next k ∙ goes (old_step p) (o-at k) run ∙ ap (behind (o-at k)) (old-jump p.old p.old_shape p.addresses (o-at k).state e))
 
@@ -218,7 +218,7 @@ module _ (p : Pair) (h : Threaded) (th : IsThreadedBy p h) where
     plain-here : (k : ℕ) → (o-at k).status ≡ Running → jump_at p.old (at k) ≡ false → (n-at (j k)).state.at ≡ h.number (at k)
     plain-here k run e = placed k run ∙ at-number (at k) (states k run).at (states k run).lands (inl e)
 
-    -- another node than a leap goes on to the next node of the new run too
+    -- another node than a transfer of control goes on to the next node of the new run too
     onward : (k : ℕ) → (o-at (suc k)).status ≡ Running → jump_at p.old (at k) ≡ false → leaps_at (slice_get p.old.nodes (at k)) ≡ false → (n-at (j (suc k))).state.at ≡ suc (h.number (at k))
     onward k run e f = by (new_step p (n-at (j k)).state) refl
       where

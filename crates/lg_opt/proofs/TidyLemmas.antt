@@ -1,4 +1,4 @@
--- Nodes of which none is an idle move have no idle moves as the promise says it.
+-- Nodes none of which is an idle move have no idle moves as the promise says it.
 use Rattle.std.proofs.Common.{◌≡◌, ◌≢◌, ℕ, zero, suc, ◌+◌, ◌-◌, ◌<◌, ◌≤◌, ◌⊎◌, inl, inr, Bool, true, false, ◌||◌, List, [], ◌∷◌, Option, Some, None, refl, sym, ap, ◌∙◌, subst, ⊎_elim, arith}
 use Rattle.std.specs.Prelude.{if◌then◌else◌, slice_get}
 use Rattle.std.proofs.lemmas.Bool.{true≢false}
@@ -54,7 +54,7 @@ module _ (l : LabelledNodes) (written : (i : ℕ) (n : Node) (m : Move) → slic
   abbrev at-node : ℕ → Reg → Option Reg
   at-node i = sources_before l i
 
-  -- the sources behind a node of a straight run
+  -- the sources after a node of a straight run
   behind-straight : (i : ℕ) (n : Node) → slice_get l.nodes i ≡ Some n → leaps n.op ≡ false → is_labelled l.places (suc i) ≡ false → sources_before l (suc i) ≡ behind_node (sources_before l i) n (move_of n.op n.operands)
   unfolding sources_before
   behind-straight i n here falls free =

@@ -18,7 +18,7 @@ LooksAlike old new p n j look see = (k : ℕ) → old.status (iter old.step k p)
 abbrev pub IsLoudAt : {N : Type 0} → Machine N → N → (ℕ → ℕ) → (N → Bool) → ℕ → Type 0
 IsLoudAt new n j loud k = (j (suc k) ≡ suc (j k)) × (loud (iter new.step (j k) n) ≡ true)
 
--- between two times at which the old run stands at one node, some step is loud: one behind the first of them, up to that at the second
+-- between two times at which the old run is at one node, some step is loud: one after the first of them, up to that at the second
 abbrev pub Turns : {P N : Type 0} → Machine P → Machine N → P → N → (ℕ → ℕ) → (P → ℕ) → (N → Bool) → Type 0
 Turns old new p n j at loud =
     (x y : ℕ) → x < y → at (iter old.step x p) ≡ at (iter old.step y p) → old.status (iter old.step y p) ≡ Running

@@ -11,7 +11,7 @@ lead l i = iter (hop l) (length l.nodes) i
 abbrev pub turns : LabelledNodes → ℕ → Bool
 turns l i = jump_at l (lead l i)
 
--- how many jumps there are from a node on, of at most so many
+-- how many jumps there are from a node on, of at most this many
 abbrev pub jumps_from : LabelledNodes → ℕ → ℕ → ℕ
 jumps_from l zero i = 0
 jumps_from l (suc f) i = if jump_at l i then suc (jumps_from l f (hop l i)) else 0
@@ -24,7 +24,7 @@ goal_node l i = if turns l i then hop l i else lead l i
 abbrev pub is_dropped : LabelledNodes → ℕ → ℕ → Bool
 is_dropped l i next = jump_at l i && (nat_lt i (goal_node l i) && nat_le (goal_node l i) next)
 
--- the first node that stays among the last ones, or the place behind the last
+-- the first node that stays among the last ones, or the place after the last
 unfoldable pub next_stays : LabelledNodes → ℕ → ℕ
 next_stays l zero = length l.nodes
 next_stays l (suc d) = if is_dropped l (length l.nodes - suc d) (next_stays l d) then next_stays l d else length l.nodes - suc d

@@ -30,7 +30,7 @@ hop_of places i (Some n) = if is_jump n.op then node_of_label places (operand_at
 abbrev pub hop : LabelledNodes → ℕ → ℕ
 hop l i = hop_of l.places i (slice_get l.nodes i)
 
--- following the jumps from a node comes to a node twice
+-- following the jumps from a node reaches a node twice
 pub record ComesTwice (l : LabelledNodes) (i : ℕ) : Type 0 where
   pub first : ℕ
   pub second : ℕ
@@ -42,7 +42,7 @@ pub record ComesTwice (l : LabelledNodes) (i : ℕ) : Type 0 where
 abbrev pub AreHops : LabelledNodes → List ℕ → Type 0
 AreHops l table = (i : ℕ) → i < length table → slice_index table i ≡ hop l i
 
--- a table has of a node where so many jumps from it, or more, lead
+-- a table has of a node where this many jumps from it, or more, lead
 pub record IsLead (l : LabelledNodes) (w : ℕ) (table : List ℕ) (i : ℕ) : Type 0 where
   pub jumps : ℕ
   pub many : w ≤ jumps
@@ -61,7 +61,7 @@ abbrev pub JumpsWithin : LabelledNodes → Type 0
 JumpsWithin l = (i : ℕ) → i < length l.nodes → hop l i < length l.nodes
 
 -- ---- what is promised of the nodes that stay
--- no jump or branch names a label in front of a jump, unless following the jumps from there comes to a node twice; and no jump goes to the next node
+-- no jump or branch names a label in front of a jump, unless following the jumps from there reaches a node twice; and no jump goes to the next node
 pub record HasNoIdleJumps (l : LabelledNodes) (has_target : Op → Bool) : Type 0 where
   pub last : (i : ℕ) (n : Node) → slice_get l.nodes i ≡ Some n → has_target n.op ≡ true
       → is_jump_at (slice_get l.nodes (node_of_label l.places (operand_at n 0))) ≡ true → ComesTwice l (node_of_label l.places (operand_at n 0))

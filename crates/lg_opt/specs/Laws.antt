@@ -21,7 +21,7 @@ DropsJoin {P} {M} {N} old middle new at place last =
     → FallsThrough old p at (λ i. stays1 i && stays2 (to1 i))
     → Drops old new p n (λ k. j2 (j1 k)) at last (λ i. stays1 i && stays2 (to1 i)) (λ i. to2 (to1 i))
 
--- runs that look alike, one behind the other, look alike
+-- runs that look alike, one after the other, look alike
 abbrev pub LooksJoin : {P M N A : Type 0} → Machine P → Machine M → Machine N → (P → A) → (M → A) → (N → A) → Type 0
 LooksJoin {P} {M} {N} old middle new look view see =
     (p : P) (m : M) (n : N) (j1 j2 : ℕ → ℕ) → Follows old middle p m j1 → LooksAlike old middle p m j1 look view → LooksAlike middle new m n j2 view see

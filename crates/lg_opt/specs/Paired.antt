@@ -1,4 +1,4 @@
--- Two runs side by side, of which the second rests at some steps of the first.
+-- Two runs side by side, the second of which rests at some steps of the first.
 use Rattle.std.specs.Prelude.{◌≡◌, ℕ, zero, suc, Bool, true, false, cond, List, []}
 use Rattle.lg_node.specs.Nodes.{LabelledNodes}
 use Rattle.lg_node.specs.Shapes.{TextShape}
@@ -35,11 +35,11 @@ RestsAt R (Goes t []) m = R t m
 RestsAt R Undefined m = Unit {0}
 RestsAt R o m = ⊥
 
--- states that stand for each other do so behind a step, and behind one at which the new run rests; Good holds of the states of the old run
+-- states that correspond to each other do so after a step, and after one at which the new run rests; Good holds of the states of the old run
 pub record AreStepped (p : Pair) (Good : State → Type 0) (R : State → State → Type 0) (moves : State → State → Bool) : Type 0 where
   pub meets : (s m : State) → Good s → R s m → moves s m ≡ true → Meets R (old_step p s) (new_step p m)
   pub rests : (s m : State) → Good s → R s m → moves s m ≡ false → RestsAt R (old_step p s) m
 
--- states of nodes of which some were dropped
+-- states of nodes some of which were dropped
 abbrev pub Dropped : (ℕ → ℕ) → State → State → Type 0
 Dropped number = Alike number (λ k n. n ≡ number k)

@@ -22,7 +22,7 @@ unfoldable pub new_number : (ℕ → Bool) → ℕ → ℕ
 new_number stays zero = 0
 new_number stays (suc i) = new_number stays i + cond (stays i) 1 0
 
--- what stays of the first nodes, where these stand in their place
+-- what stays of the first nodes, where these are in their place
 unfoldable pub remaining : {X : Type 0} → (ℕ → Bool) → (ℕ → Option X) → ℕ → List X
 remaining stays node zero = []
 remaining stays node (suc i) = remaining stays node i ++ (cond (stays i) (option_to_list (node i)) [])
@@ -32,7 +32,7 @@ abbrev pub moved_place : (ℕ → ℕ) → Option Place → Option Place
 moved_place to (Some (place.Node k)) = Some (place.Node (to k))
 moved_place to p = p
 
--- operands of which the first is this label
+-- operands the first of which is this label
 abbrev pub with_first : List Operand → Label → List Operand
 with_first [] y = []
 with_first (x ∷ xs) y = operand.Label y ∷ xs

@@ -18,13 +18,13 @@ use Rattle.lg_opt.specs.Targets.{AreTargets}
 use Rattle.lg_opt.specs.Runs.{AreDropped, AreThreaded}
 use Rattle.lg_meaning.specs.Starts.{IsEntryStack}
 
--- each new node stands for the old one of a number, and the numbers rise
+-- each new node corresponds to the old one of a number, and the numbers rise
 pub record IsOrigin (Stands : Node → Node → Type 0) (l m : LabelledNodes) (origin : List ℕ) : Type 0 where
   pub count : length origin ≡ length m.nodes
   pub rises : (i k : ℕ) → i < k → k < length origin → slice_index origin i < slice_index origin k
   pub nodes : (k : ℕ) (n : Node) → slice_get m.nodes k ≡ Some n → (old : Node) × (slice_get l.nodes (slice_index origin k) ≡ Some old) × Stands old n
 
--- a node stands for itself
+-- a node corresponds to itself
 abbrev pub IsSameNode : Node → Node → Type 0
 IsSameNode old n = n ≡ old
 
@@ -46,7 +46,7 @@ ThreadedNodesStay = (old n : Node) → IsThreadedNode old n → IsAlikeButForTar
 abbrev pub KeepsOthers : (Op → Bool) → LabelledNodes → List ℕ → Type 0
 KeepsOthers goes l origin = (i : ℕ) (n : Node) → slice_get l.nodes i ≡ Some n → goes n.op ≡ false → (k : ℕ) × (slice_get origin k ≡ Some i)
 
--- a new node is the first of those that stand for an old one from number i on
+-- a new node is the first of those that correspond to an old one from number i on
 pub record IsFirstFrom (origin : List ℕ) (i k : ℕ) : Type 0 where
   pub within : k ≤ length origin
   pub before : (j : ℕ) → j < k → slice_index origin j < i
@@ -59,7 +59,7 @@ pub record KeepsLabels (l m : LabelledNodes) (origin : List ℕ) : Type 0 where
   pub images : (x k : ℕ) → IsBound m x (place.Image k) → IsBound l x (place.Image k)
   pub nodes : (x i : ℕ) → IsBound l x (place.Node i) → (k : ℕ) × IsBound m x (place.Node k) × IsFirstFrom origin i k
 
--- of so many nodes those stay for which a new one stands, and each of them, and the end, leads to the first new node that stays from there on
+-- of n nodes those stay for which a new one stands, and each of them, and the end, leads to the first new node that stays from there on
 pub record IsNumberedBy (origin : List ℕ) (count : ℕ) (stays : ℕ → Bool) (to : ℕ → ℕ) : Type 0 where
   pub kept : (i : ℕ) → i < count → (stays i ≡ true) ↔ ((k : ℕ) × (slice_get origin k ≡ Some i))
   pub first : (i : ℕ) → i ≤ count → IsFirstFrom origin i (to i)
@@ -68,7 +68,7 @@ pub record IsNumberedBy (origin : List ℕ) (count : ℕ) (stays : ℕ → Bool)
 abbrev pub CarriesAddresses : LabelledNodes → LabelledNodes → Type 0
 CarriesAddresses l m = (size : ℕ) (addresses : List ℕ) → AreAddresses m size addresses → AreAddresses l size addresses
 
--- the new run follows the old one: it steps where the old one stands at a node for which a new one stands
+-- the new run follows the old one: it steps where the old one is at a node for which a new one stands
 abbrev pub RunIsDropped : LabelledNodes → TextShape → LabelledNodes → TextShape → List ℕ → List ℕ → ℕ → List ℕ → List ℕ → Type 0
 RunIsDropped l shape m new_shape origin addresses sp image args =
     (run : AreDropped l shape m new_shape addresses sp image args) × IsNumberedBy origin (length l.nodes) run.stays run.to

@@ -9,7 +9,7 @@ use Rattle.lg_opt.specs.Drops.{Drops, Threads}
 use Rattle.lg_opt.specs.Rewritten.{at, is_loud, RemembersAlike, MeaningIsFollowed}
 use Rattle.lg_opt.specs.Hops.{jump_at}
 
--- the run of the new nodes steps where the old one stands at a node that stays; each branch, jump, call or return stays, as one of them
+-- the run of the new nodes steps where the old one is at a node that stays; each branch, jump, call or return stays, as one of them
 pub record AreDropped (l : LabelledNodes) (shape : TextShape) (m : LabelledNodes) (new_shape : TextShape) (addresses : List ℕ) (sp : ℕ) (image args : List ℕ) : Type 0 where
   pub j : ℕ → ℕ
   pub stays : ℕ → Bool

@@ -18,11 +18,11 @@ pub record Threaded : Type 0 where
   pub goal : ℕ → ℕ
   pub depth : ℕ → ℕ
 
--- the new run stands at the new number of the old run's node, or already where the jump there leads in the end
+-- the new run is at the new number of the old run's node, or already where the jump there leads in the end
 abbrev pub Lands : LabelledNodes → Threaded → ℕ → ℕ → Type 0
 Lands l h k n = (n ≡ h.number k) ⊎ ((jump_at l k ≡ true) × (h.turns k ≡ false) × (n ≡ h.goal k))
 
--- the node that stands in the place of another
+-- the node that is in the place of another
 pub record StandsFor (p : Pair) (h : Threaded) (i : ℕ) (n : Node) : Type 0 where
   pub node : Node
   pub here : slice_get p.new.nodes (h.number i) ≡ Some node

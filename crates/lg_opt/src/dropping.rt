@@ -11,7 +11,7 @@ use lg_base::OutOfMemory;
 use lg_node::{NodeList, Shape};
 use std::alloc::Global;
 
-// The nodes without the moves that do nothing.
+// Returns the nodes without the moves that do nothing.
 fn dropped(alloc: Global, nodes: NodeList, shape: Shape) -> Result<Rewritten, OutOfMemory>
     requires { IsShapeOf nodes shape }
     ensures { IfOk result (λ r. IsDroppedTo nodes shape r.nodes r.shape r.origin.items) }
@@ -27,8 +27,8 @@ fn dropped(alloc: Global, nodes: NodeList, shape: Shape) -> Result<Rewritten, Ou
 /// of the two into the other and neither was written since. A label of a dropped node moves to the next that stays. The shape is that of the
 /// nodes. Time and memory go by the number of nodes and labels.
 ///
-/// Every node but a `movr` stays. The new run makes a step where the old one stands at a node that stays, and rests at the others, over any addresses of
-/// the labels in the new nodes.
+/// Every node but a `movr` stays. The new run makes a step where the old one is at a node that stays, and rests at the others, over any addresses of the
+/// labels in the new nodes.
 pub fn drop_moves(alloc: Global, nodes: &NodeList, shape: &Shape) -> Result<Rewritten, OutOfMemory>
     requires { IsShapeOf nodes.now shape.now }
     ensures shape { IfOk result (λ r. IsShapeOf r.nodes r.shape) }
@@ -47,7 +47,7 @@ pub fn drop_moves(alloc: Global, nodes: &NodeList, shape: &Shape) -> Result<Rewr
     without_idle_moves(alloc, nodes, shape)
 }
 
-/// `drop_moves` of nodes that are handed over: where nothing is dropped they are handed back, with no copy.
+/// `drop_moves` of nodes that are passed: where nothing is dropped they are returned, with no copy.
 pub fn without_idle_moves(
     alloc: Global,
     nodes: NodeList,

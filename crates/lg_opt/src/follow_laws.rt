@@ -33,7 +33,7 @@ pub trait Rewriting {
     /// The node at which one of the third does.
     ghost last: { Self.New → ℕ };
 
-    /// Whether a state of the third run stands at a branch, jump, call or return.
+    /// Whether a state of the third run is at a branch, jump, call or return.
     ghost loud: { Self.New → Bool };
 
     /// What is looked at of a state.
@@ -57,7 +57,7 @@ pub fn drops_join<R: Rewriting>()
     ensures { DropsJoin R.old R.middle R.new R.at R.place R.last }
 {}
 
-/// Runs that look alike, one behind the other, look alike.
+/// Runs that look alike, one after the other, look alike.
 pub fn looks_join<R: Rewriting>()
     ensures { LooksJoin R.old R.middle R.new R.look R.view R.see }
 {}
@@ -93,10 +93,10 @@ pub trait RewrittenCode {
     /// The node at which one of the new run does.
     ghost place: { Self.New → ℕ };
 
-    /// Whether a state of the new run stands at a branch, jump, call or return.
+    /// Whether a state of the new run is at a branch, jump, call or return.
     ghost loud: { Self.New → Bool };
 
-    /// Whether a state of the new run and one of the processor stand for each other.
+    /// Whether a state of the new run and one of the processor correspond to each other.
     ghost stands: { Self.New → Self.State → Type 0 };
 
     /// The old run is one of a machine.

@@ -9,7 +9,7 @@ use lg_base::OutOfMemory;
 use lg_node::{ControlOp, LastOperand, Node, NodeList, Op, Operand, Place};
 use std::alloc::Global;
 
-// Whether some lead changed, or this one did.
+// Returns whether some lead changed, or this one did.
 fn has_changed(changed: bool, new: u32, old: u32) -> bool
     ensures { result ≡ (changed || not (new == old)) }
 {
@@ -32,7 +32,7 @@ fn double(table: &mut [u32]) -> bool
     changed
 }
 
-/// The node to which a branch or jump goes.
+/// Returns the node to which a branch or jump goes.
 pub fn target_node(nodes: &NodeList, node: &Node) -> u32
     ensures { result ≡ target_node nodes.now node.now }
 {
@@ -45,7 +45,7 @@ pub fn target_node(nodes: &NodeList, node: &Node) -> u32
     }
 }
 
-/// The node to which a jump goes; another node stays.
+/// Returns the node to which a jump goes; another node stays.
 pub fn hop(nodes: &NodeList, index: u32) -> u32
     requires inside { index < length nodes.now.nodes }
     ensures { result ≡ hop nodes.now index }
@@ -58,14 +58,14 @@ pub fn hop(nodes: &NodeList, index: u32) -> u32
     }
 }
 
-/// Whether an operation is an unconditional jump to a label.
+/// Returns whether an operation is an unconditional jump to a label.
 pub fn is_jump(op: Op) -> bool
     ensures { result ≡ is_jump op }
 {
     matches!(op, Op::Control(ControlOp::Jmp, LastOperand::Immediate))
 }
 
-/// Whether some node is an unconditional jump to a label.
+/// Returns whether some node is an unconditional jump to a label.
 pub fn any_jumps(nodes: &NodeList) -> bool
     ensures none { result ≡ false → (i : ℕ) → jump_at nodes.now i ≡ false }
     ensures some { IsTrue result → (i : ℕ) × (jump_at nodes.now i ≡ true) }

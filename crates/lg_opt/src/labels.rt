@@ -34,7 +34,7 @@ pub fn labels_at(alloc: Global, nodes: &NodeList) -> Result<Vec<Option<Label>>, 
     Ok(table)
 }
 
-/// Whether a label is bound at a node, by the table.
+/// Returns whether a label is bound at a node, by the table.
 pub fn is_labelled(labels: &[Option<Label>], index: u32) -> bool
     requires { index < length labels.now }
     ensures { (l : LabelledNodes) → AreLabelsAt l labels.now → result ≡ is_labelled l.places index }

@@ -14,7 +14,7 @@ use lg_base::OutOfMemory;
 use lg_node::{ControlOp, Label, Node, NodeList, Op, PlainOp};
 use std::alloc::Global;
 
-/// Whether an operation is a branch, jump, call or return: behind them a straight run is over.
+/// Returns whether an operation is a branch, jump, call or return: after them a straight run is over.
 pub fn leaps(op: Op) -> bool
     ensures { result ≡ leaps op }
 {
@@ -27,7 +27,7 @@ pub fn leaps(op: Op) -> bool
     }
 }
 
-// The sources at a node, of those behind the node before: none where a label is bound at it.
+// The sources at a node, of those after the node before: none where a label is bound at it.
 fn meet(sources: &mut Sources, labelled: bool)
     ensures { (r : Reg) → source_of sources.new r ≡ (if labelled then None else source_of sources.old r) }
 {
@@ -36,7 +36,7 @@ fn meet(sources: &mut Sources, labelled: bool)
     }
 }
 
-// The sources behind a node, of those at it.
+// The sources after a node, of those at it.
 fn pass(sources: &mut Sources, node: &Node)
     ensures { (r : Reg) → source_of sources.new r ≡ behind_at (source_of sources.old) (Some node.now) r }
 {
@@ -47,7 +47,7 @@ fn pass(sources: &mut Sources, node: &Node)
     }
 }
 
-// Whether a node is no move that does nothing.
+// Returns whether a node is no move that does nothing.
 fn stays_here(sources: &Sources, node: &Node) -> bool
     ensures { result ≡ not (is_idle (source_of sources.now) (move_of node.now.op node.now.operands)) }
 {
@@ -57,7 +57,7 @@ fn stays_here(sources: &Sources, node: &Node) -> bool
     }
 }
 
-// Whether a node is no move that does nothing, and the sources behind it, of those at it.
+// Returns whether a node is no move that does nothing, and the sources after it, of those at it.
 #[inline(never)]
 fn look_closely(sources: &mut Sources, node: &Node) -> bool
     ensures stays { result ≡ not (is_idle (source_of sources.old) (move_of node.now.op node.now.operands)) }
@@ -83,7 +83,7 @@ fn look(sources: &mut Sources, nodes: &NodeList, index: u32) -> bool
     look_closely(sources, &nodes.node(index))
 }
 
-// Of each node whether it stays, by the labels that stand at the nodes.
+// Of each node whether it stays, by the labels that are at the nodes.
 fn staying(
     alloc: Global,
     nodes: &NodeList,

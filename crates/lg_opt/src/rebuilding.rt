@@ -1,4 +1,4 @@
-// Lists of nodes of which some are dropped and some get other targets.
+// Lists of nodes some of which are dropped and some get other targets.
 
 ghost use Rattle.std.specs.Prelude.{◌≡◌, ◌<◌, ◌≤◌, ◌+◌, ◌^◌, ◌-◌, ℕ, Some, None, true, if◌then◌else◌, cond, [], ◌∷◌, ◌++◌, length, map};
 ghost use Rattle.std.specs.Prelude.{replicate, slice_get, slice_index, slice_set, OnOk, IfOk, IfSome, is_none};
@@ -14,7 +14,7 @@ use lg_base::{Origin, OutOfMemory};
 use lg_node::{Label, Node, NodeList, Operand, Operands, Place};
 use std::alloc::Global;
 
-// Mentions the labels of another list, each of which gets its number; a word that came twice would be told as want of memory.
+// Mentions the labels of another list, each of which gets its number; a word that came twice would be reported as out of memory.
 fn mention_all(list: &mut NodeList, old: &NodeList) -> Result<(), OutOfMemory>
     requires { list.old ≡ record { nodes = []; words = []; places = [] } }
     ensures { OnOk result (list.new ≡ unbound old.now.words) }
@@ -28,8 +28,8 @@ fn mention_all(list: &mut NodeList, old: &NodeList) -> Result<(), OutOfMemory>
     Ok(())
 }
 
-/// A list of no nodes with the labels of another, none of them bound. The words of a list's labels differ, so that each gets its number; one that
-/// came twice would be told as want of memory.
+/// Returns a list of no nodes with the labels of another, none of them bound. The words of a list's labels differ, so that each gets its number; one that
+/// came twice would be reported as out of memory.
 pub fn unbound(alloc: Global, old: &NodeList) -> Result<NodeList, OutOfMemory>
     ensures { IfOk result (λ l. l ≡ unbound old.now.words) }
 {
@@ -42,7 +42,7 @@ pub fn unbound(alloc: Global, old: &NodeList) -> Result<NodeList, OutOfMemory>
     }
 }
 
-// Operands of which the first is this label.
+// Operands the first of which is this label.
 fn with_first(operands: Operands, label: Label) -> Operands
     ensures { result ≡ with_first operands label }
 {
@@ -120,7 +120,7 @@ fn counted(number: u32, stays: bool) -> u32
     if stays { number + 1 } else { number }
 }
 
-/// Of each node its new number, and behind them how many stay.
+/// Of each node its new number, and after them how many stay.
 pub fn numbers(alloc: Global, stays: &[bool]) -> Result<Vec<u32>, OutOfMemory>
     requires { length stays.now < 2 ^ 32 }
     ensures count { IfOk result (λ table. length table.items ≡ length stays.now + 1) }
@@ -136,7 +136,7 @@ pub fn numbers(alloc: Global, stays: &[bool]) -> Result<Vec<u32>, OutOfMemory>
     Ok(table)
 }
 
-// Where a label is bound behind the rewriting.
+// Where a label is bound after the rewriting.
 fn moved(numbers: &[u32], place: Option<Place>) -> Option<Place>
     requires place { IfSome place (IsWithin (length numbers.now - 1)) }
     requires some { 0 < length numbers.now }
@@ -197,7 +197,7 @@ fn fill(
     Ok(())
 }
 
-/// The nodes that stay, with their targets and the labels in their new places, built one by one.
+/// Returns the nodes that stay, with their targets and the labels in their new places, built one by one.
 pub fn rebuilt(
     alloc: Global,
     nodes: &NodeList,
@@ -217,14 +217,14 @@ pub fn rebuilt(
     }
 }
 
-/// Whether all nodes stay.
+/// Returns whether all nodes stay.
 pub fn all_stay(stays: &[bool]) -> bool
     ensures { result ≡ list_all (λ s. s) stays.now }
 {
     stays.iter().all(|stays| *stays)
 }
 
-/// Whether no other target is given.
+/// Returns whether no other target is given.
 pub fn none_given(targets: &[Option<Label>]) -> bool
     ensures { result ≡ list_all is_none targets.now }
 {
@@ -242,7 +242,7 @@ fn push_index(origin: &mut Origin, stays: bool, index: u32)
     }
 }
 
-/// The numbers of the nodes that stay.
+/// Returns the numbers of the nodes that stay.
 pub fn origin(alloc: Global, stays: &[bool]) -> Result<Origin, OutOfMemory>
     requires { length stays.now < 2 ^ 32 }
     ensures { IfOk result (λ o. o.items ≡ origins (marked stays.now) (length stays.now)) }

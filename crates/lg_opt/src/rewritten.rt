@@ -19,7 +19,7 @@ pub struct Rewritten {
     pub nodes: NodeList,
     /// Their shape, with the taken labels of the nodes that they were rewritten from.
     pub shape: Shape,
-    /// Of each node the index of the one that it stands for, rising.
+    /// Of each node the index of the one that it corresponds to, rising.
     pub origin: Origin,
 }
 
@@ -65,7 +65,7 @@ fn handed_back(
     }
 }
 
-// The nodes that stay, with their targets and the labels in their new places, in a list of their own, with their shape.
+// Returns the nodes that stay, with their targets and the labels in their new places, in a list of their own, with their shape.
 fn made_anew(
     alloc: Global,
     nodes: &NodeList,
@@ -88,14 +88,14 @@ fn made_anew(
     }
 }
 
-// Whether all nodes stay, and none gets another target.
+// Returns whether all nodes stay, and none gets another target.
 fn is_unchanged(stays: &[bool], targets: &[Option<Label>]) -> bool
     ensures { result ≡ (list_all (λ s. s) stays.now && list_all is_none targets.now) }
 {
     all_stay(stays) && none_given(targets)
 }
 
-/// The nodes that stay, with their targets and the labels in their new places, with their shape. Where all stay as they are it is the same list.
+/// Returns the nodes that stay, with their targets and the labels in their new places, with their shape. Where all stay as they are it is the same list.
 #[tactic(auto, using(crate::proofs::WholeLemmas::whole))]
 pub fn remade(
     alloc: Global,

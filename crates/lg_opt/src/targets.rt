@@ -13,7 +13,7 @@ use lg_base::OutOfMemory;
 use lg_node::{ControlOp, Label, LastOperand, NodeList, Op};
 use std::alloc::Global;
 
-// Whether an operation is a branch or a jump, whose first operand is its target.
+// Returns whether an operation is a branch or a jump, whose first operand is its target.
 fn has_target(op: Op) -> bool
     ensures { result ≡ has_target op }
 {

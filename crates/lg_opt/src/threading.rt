@@ -61,7 +61,7 @@ fn tables_of(alloc: Global, nodes: &NodeList) -> Result<Tables, OutOfMemory>
     }
 }
 
-// The nodes with their jumps threaded.
+// Returns the nodes with their jumps threaded.
 fn threaded(alloc: Global, nodes: NodeList, shape: Shape) -> Result<Rewritten, OutOfMemory>
     requires { IsShapeOf nodes shape }
     ensures { IfOk result (λ r. IsThreadedTo nodes shape r.nodes r.shape r.origin.items) }
@@ -78,7 +78,7 @@ fn threaded(alloc: Global, nodes: NodeList, shape: Shape) -> Result<Rewritten, O
 /// that of the nodes. Memory goes by the number of nodes and labels, and time by that and at most 32 passes over a table of the nodes.
 ///
 /// Every node but a `jmpi` stays. The new run follows the old one over any addresses of the labels in the new nodes, and steps at each node that is no
-/// `jmpi`; between two times at which the old run stands at one node, it steps at a branch, jump, call or return.
+/// `jmpi`; between two times at which the old run is at one node, it steps at a branch, jump, call or return.
 pub fn thread(alloc: Global, nodes: &NodeList, shape: &Shape) -> Result<Rewritten, OutOfMemory>
     requires { IsShapeOf nodes.now shape.now }
     ensures shape { IfOk result (λ r. IsShapeOf r.nodes r.shape) }
@@ -98,7 +98,7 @@ pub fn thread(alloc: Global, nodes: &NodeList, shape: &Shape) -> Result<Rewritte
     with_threaded_jumps(alloc, nodes, shape)
 }
 
-/// `thread` of nodes that are handed over: where nothing is threaded they are handed back, with no copy.
+/// `thread` of nodes that are passed: where nothing is threaded they are returned, with no copy.
 pub fn with_threaded_jumps(
     alloc: Global,
     nodes: NodeList,

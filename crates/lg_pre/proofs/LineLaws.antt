@@ -35,7 +35,7 @@ use Rattle.lg_macro.proofs.FeedLemmas.{feeds_among, feeds_among_all, AreTidy, Ar
 
 -- ---- results
 
--- what holds behind a step, and then behind a further one
+-- what holds after a step, and then after a further one
 pub if_bound : {A B : Type 0} (r : Result A Refusal) (f : A → Result B Refusal) (P : A → Type 0) (Q : B → Type 0) → IfOk r P → ((x : A) → P x → IfOk (f x) Q) → IfOk (r >>= f) Q
 if_bound (Ok x) f P Q h next = next x h
 if_bound (Err e) f P Q h next = tt
@@ -396,7 +396,7 @@ directs_keeps text s at sign end tidy h is =
     let same : feeds_of s2.given ≡ feeds_of s1.given = ap (λ (g : List ℕ). feeds_of g) e2.1 in
     (refl, (e2.0, quiet_tidy s2.lines none, omega (arith, parts, none, same, e3, e1.2, is.2), subst (λ (l : List Piece). HaveLines (1 + feeds_of given) l) (sym lines) tt)))))
 
--- a line that is read, and the place behind it
+-- a line that is read, and the place after it
 abbrev pub IsRead : List Piece → ℕ → ℕ × Expander → Type 0
 IsRead text at next = (at < next.0) × IsInLine text next.1 next.0
 

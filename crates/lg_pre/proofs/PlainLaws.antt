@@ -45,7 +45,7 @@ unfolding line_len
 behind_by slash p rest true e h next = rw e h
 behind_by slash p rest false e h next = rw (e, one-add) (next (ends_with_slash p) h)
 
--- behind a line the next one begins
+-- after a line the next one begins
 behind_line : (begins slash : Bool) (pieces : List Piece) → HasNoDirective begins pieces → HasNoDirective true (drop (line_len false slash pieces) pieces)
 unfolding line_len
 behind_line begins slash [] h = tt

@@ -21,7 +21,7 @@ use Rattle.lg_pre.proofs.PlainLemmas.{pieces_are_text, plain_step}
 pub pieces_are_the_text : PiecesAreTheText
 pieces_are_the_text text = (pieces_are_text (length text) 1 text (omega arith), (whole_text text).1)
 
--- ---- line feeds behind what a call gives
+-- ---- line feeds after what a call gives
 
 abbrev HasFeedsBehind : List Piece → List Piece → Type 0
 HasFeedsBehind given out = (feeds : List Piece) × (out ≡ given ++ feeds) × AreFeeds feeds

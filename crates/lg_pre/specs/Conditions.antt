@@ -26,7 +26,7 @@ skipping conditions = skips (innermost conditions)
 abbrev pub is_full : List Condition → Bool
 is_full conditions = nat_le 64 (length conditions)
 
--- a further condition, of which at most 64 may be open
+-- a further condition (at most 64 may be open)
 abbrev pub opens : List Condition → ℕ → Bool → Bool → Result (List Condition) Refusal
 opens conditions line around chosen = if is_full conditions then refuse BadDirective line
     else Ok (conditions ++ record { line = line; chosen = chosen; around = around; other = false } ∷ [])
@@ -47,7 +47,7 @@ abbrev pub is_around : Option Condition → Bool
 is_around None = true
 is_around (Some c) = c.around
 
--- whether something stands behind the name that may not: in a skipped group it may
+-- whether something is after the name that may not: in a skipped group it may
 abbrev pub is_crowded : List Condition → List Piece → Bool
 is_crowded conditions rest = is_around (innermost conditions) && not (length rest == 0)
 

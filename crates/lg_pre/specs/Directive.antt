@@ -20,6 +20,6 @@ abbrev pub by_kind : List ℕ → PieceKind → Directive
 by_kind text Word = by_name text
 by_kind text kind = Unknown
 
--- the directive of the pieces behind a #
+-- the directive of the pieces after a #
 abbrev pub directive_of : List Piece → Directive
 directive_of body = if length body == 0 then Nothing else by_kind (piece_at body 0).text (piece_at body 0).kind

@@ -9,7 +9,7 @@ use Rattle.lg_macro.specs.declared.macros.Macro.{Macro}
 use Rattle.lg_base.specs.declared.refusal.Refusal.{Refusal}
 use Rattle.lg_base.specs.declared.refusal.RefusalKind.TheVariants.{ExpandTooMuch}
 
--- a text of a line behind what is given: at most 16,777,216 bytes in all
+-- a text of a line after what is given: at most 16,777,216 bytes in all
 abbrev pub gives_text : ℕ → List ℕ → List ℕ → Result (List ℕ) Refusal
 gives_text line text given = if nat_lt most (length given + length text) then refuse ExpandTooMuch line else Ok (given ++ text)
 

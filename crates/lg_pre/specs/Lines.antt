@@ -19,7 +19,7 @@ LineFeedsAreKept = (text : List ℕ) → IfOk (expanded text) (λ given. feeds_o
 abbrev pub BeginsWith : List ℕ → List ℕ → Type 0
 BeginsWith whole given = (more : List ℕ) × (whole ≡ given ++ more)
 
--- what is given stays: the lines between two directives, and all of a text, give further bytes behind it
+-- what is given stays: the lines between two directives, and all of a text, give further bytes after it
 abbrev pub GivenBytesStay : Type 0
 GivenBytesStay = ((table : List Macro) (k : ℕ) (pieces : List Piece) (given : List ℕ) (sum : ℕ)
     → IfOk (flushed table k pieces given sum) (λ next. BeginsWith next.0 given))
@@ -42,7 +42,7 @@ abbrev pub AreFeeds : List Piece → Type 0
 AreFeeds [] = Unit {0}
 AreFeeds (p ∷ rest) = (p.kind ≡ Feed) × AreFeeds rest
 
--- what a name gives is on one line: pieces without line feeds, and behind them line feeds alone
+-- what a name gives is on one line: pieces without line feeds, and after them line feeds alone
 pub record IsOneLine (given : List Piece) : Type 0 where
   pub made : List Piece
   pub feeds : List Piece
@@ -61,7 +61,7 @@ pub record IsOnItsLine (table : List Macro) (p : Piece) (rest : List Piece) (giv
   pub stays : named table p ≡ None → outermost table p rest sum ≡ Ok (0, (p ∷ [], sum))
   pub gives : (place : ℕ) → named table p ≡ Some place → IfOk (outermost table p rest sum) (λ s. IsOneLine s.1.0)
 
--- each outermost piece of these, at most so many, one after the other as `flushed` comes to them
+-- each outermost piece of these, at most this many, one after the other as `flushed` reaches them
 unfoldable pub AreOnTheirLines : List Macro → ℕ → List Piece → List ℕ → ℕ → Type 0
 AreOnTheirLines table zero pieces given sum = Unit {0}
 AreOnTheirLines table (suc k) [] given sum = Unit {0}
@@ -72,7 +72,7 @@ AreOnTheirLines table (suc k) (p ∷ rest) given sum = IsOnItsLine table p rest 
 abbrev pub AreFlushedOnLines : Expander → Type 0
 AreFlushedOnLines s = skipping s.conditions ≡ false → AreOnTheirLines s.table (length s.lines) s.lines s.given s.sum
 
--- all of a text from a place on, as `lines_in` comes to it: what waits is expanded at each directive and at the end
+-- all of a text from a place on, as `lines_in` reaches it: what waits is expanded at each directive and at the end
 unfoldable pub IsOnItsLines : ℕ → List Piece → Expander → ℕ → Type 0
 IsOnItsLines zero text s at = AreFlushedOnLines s
 IsOnItsLines (suc k) text s at =

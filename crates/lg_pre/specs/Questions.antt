@@ -21,12 +21,12 @@ use Rattle.lg_base.specs.declared.refusal.RefusalKind.TheVariants.{BadDirective}
 abbrev pub solid_at : List Piece → ℕ → ℕ
 solid_at pieces at = at + prefix_len (λ p. is_white p.kind) (drop at pieces)
 
--- the place of a name with its ) behind it, and the place behind that
+-- the place of a name with its ) after it, and the place after that
 abbrev pub name_in_parens : List Piece → ℕ → Option (ℕ × ℕ)
 name_in_parens pieces name = let close = solid_at pieces (name + 1) in
     if is_word (piece_at pieces name).kind && is_byte 41 (piece_at pieces close).kind then Some (name, close + 1) else None
 
--- the place of the name that stands behind `defined`, and the place behind all of it
+-- the place of the name that is after `defined`, and the place after all of it
 abbrev pub asked : List Piece → ℕ → Option (ℕ × ℕ)
 asked pieces at = let first = solid_at pieces at in
     if is_word (piece_at pieces first).kind then Some (first, first + 1)
@@ -46,7 +46,7 @@ abbrev pub resolved_by : List Macro → List Piece → ℕ → Option (ℕ × �
 resolved_by table pieces at None = (piece_at pieces at, at + 1)
 resolved_by table pieces at (Some found) = (answer_of table (piece_at pieces found.0), found.1)
 
--- the pieces from a place on with these questions answered, at most so many
+-- the pieces from a place on with these questions answered, at most this many
 unfoldable pub resolved_from : List Macro → List Piece → ℕ → ℕ → List Piece
 resolved_from table pieces zero at = []
 resolved_from table pieces (suc k) at = if nat_le (length pieces) at then []
@@ -57,7 +57,7 @@ resolved table pieces = resolved_from table pieces (length pieces) 0
 
 -- ---- the value of an expression
 
--- the token that an expression makes: $( before it, and a line feed and ) behind it
+-- the token that an expression makes: $( before it, and a line feed and ) after it
 abbrev pub token_text : List ℕ → List ℕ
 token_text bytes = ((36 ∷ 40 ∷ []) ++ bytes) ++ 10 ∷ 41 ∷ []
 
@@ -92,7 +92,7 @@ is_chosen line bytes = sure line (value_of bytes) >>= (λ value. Ok (not (value 
 abbrev pub question : List Macro → ℕ → List Piece → ℕ → Result (List Piece × ℕ) Refusal
 question table line pieces sum = expand_in table 201 line [] (resolved table pieces) ([], sum)
 
--- whether the group of an #if is chosen, and the sum of replacements behind its expression
+-- whether the group of an #if is chosen, and the sum of replacements after its expression
 abbrev pub asks : List Macro → ℕ → List Piece → ℕ → Result (Bool × ℕ) Refusal
 asks table line pieces sum = if length pieces == 0 then refuse BadDirective line
     else question table line pieces sum >>= (λ given. is_chosen line (worth_of given.0) >>= (λ chosen. Ok (chosen, given.1)))

@@ -10,7 +10,7 @@ use lg_macro::{Pieces, refused};
 use std::alloc::Global;
 use std::marker::Model;
 
-/// An open condition: its line, whether its group is chosen, whether it stands in a group that is chosen, and whether its `#else` has come.
+/// An open condition: its line, whether its group is chosen, whether it is in a group that is chosen, and whether its `#else` has come.
 #[derive(Clone, Copy)]
 pub struct Condition {
     pub line: u32,
@@ -46,14 +46,14 @@ impl Conditions {
         }
     }
 
-    /// The innermost condition.
+    /// Returns the innermost condition.
     pub fn innermost(&self) -> Option<Condition>
         ensures { result ≡ innermost self.now }
     {
         self.open.as_slice().last().copied()
     }
 
-    /// Whether the group is not chosen.
+    /// Returns whether the group is not chosen.
     pub fn is_skipping(&self) -> bool
         ensures { result ≡ skipping self.now }
     {
@@ -63,7 +63,7 @@ impl Conditions {
         }
     }
 
-    /// Opens a condition, of which at most 64 may be open.
+    /// Opens a condition (at most 64 may be open).
     pub fn open(&mut self, line: u32, around: bool, chosen: bool) -> Result<(), Stop>
         ensures { CountsAs result self.new (opens self.old line around chosen) }
     {
@@ -78,7 +78,7 @@ impl Conditions {
         })
     }
 
-    /// Whether no further condition may be open.
+    /// Returns whether no further condition may be open.
     pub fn is_full(&self) -> bool
         ensures { result ≡ is_full self.now }
     {
@@ -103,7 +103,7 @@ impl Conditions {
         self.open.truncate(n.saturating_sub(1));
     }
 
-    // Whether something stands behind the name of an #else or #endif that may not.
+    // Returns whether something is after the name of an #else or #endif that may not.
     fn is_crowded(&self, rest: &Pieces) -> bool
         ensures { result ≡ is_crowded self.now rest.now }
     {

@@ -26,7 +26,7 @@ pub enum Directive {
     Unknown,
 }
 
-// The directive of a name.
+// Returns the directive of a name.
 fn by_name(name: &[u8]) -> Directive
     ensures { result ≡ by_name name.now }
 {
@@ -49,7 +49,7 @@ fn by_name(name: &[u8]) -> Directive
     }
 }
 
-/// The directive of the pieces behind a `#`.
+/// Returns the directive of the pieces after a `#`.
 pub(crate) fn directive_of(body: &Pieces) -> Directive
     ensures { result ≡ directive_of body.now }
 {

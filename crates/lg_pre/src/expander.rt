@@ -27,7 +27,7 @@ use memchr::memmem::find;
 use std::alloc::Global;
 use std::mem::replace;
 
-/// What a text has come to: macros, open conditions, the lines that wait for the next directive, bytes given, and the sum of replacements.
+/// The outcome of a text has: macros, open conditions, the lines that wait for the next directive, bytes given, and the sum of replacements.
 #[derive(Drop)]
 pub struct Expander {
     pub table: Table,
@@ -60,7 +60,7 @@ fn undefine(alloc: Global, table: &mut Table, line: u32, rest: &Pieces) -> Resul
     }
 }
 
-// Whether a name is defined or not, as wanted.
+// Returns whether a name is defined or not, as expected.
 fn is_as_wanted(wanted: bool, is: bool) -> bool
     ensures { result ≡ is_as_wanted wanted is }
 {
@@ -128,7 +128,7 @@ impl Expander {
         }
     }
 
-    // Reads a directive by its name and what stands behind that.
+    // Reads a directive by its name and what is after that.
     fn obeyed(
         &mut self,
         alloc: Global,
@@ -145,7 +145,7 @@ impl Expander {
         }
     }
 
-    // Reads a directive by the pieces behind its `#`.
+    // Reads a directive by the pieces after its `#`.
     fn obey(
         &mut self,
         alloc: Global,
@@ -244,7 +244,7 @@ impl Expander {
         done
     }
 
-    // Reads the line that begins at a place: the place behind it.
+    // Reads the line that begins at a place: the place after it.
     #[tactic(auto, unfolding(crate::specs::Expanded::one_line))]
     fn one_line(
         &mut self,
@@ -313,7 +313,7 @@ fn body_between(
     without_ends(spare, body)
 }
 
-// The pieces of the definition of `__WORDSIZE`.
+// Returns the pieces of the definition of `__WORDSIZE`.
 fn word_size(alloc: Global) -> Result<Pieces, OutOfMemory>
     ensures { IfOk result (λ r. r ≡ cut 0 (codes "__WORDSIZE 64")) }
 {
@@ -342,7 +342,7 @@ fn define_word_size(alloc: Global, table: &mut Table) -> Result<(), OutOfMemory>
     define_first(alloc, table, &pieces)
 }
 
-// The table that defines `__WORDSIZE`.
+// Returns the table that defines `__WORDSIZE`.
 fn start_table(alloc: Global) -> Result<Table, OutOfMemory>
     ensures { IfOk result (λ r. r ≡ start_table) }
 {
@@ -365,7 +365,7 @@ fn start(alloc: Global) -> Result<Expander, OutOfMemory>
     })
 }
 
-// The expansion of the pieces of a text.
+// Returns the expansion of the pieces of a text.
 fn expand_pieces(alloc: Global, text: &Pieces) -> Result<PlainText, Stop>
     ensures { Reads result (expanded_in text.now) }
 {
@@ -374,7 +374,7 @@ fn expand_pieces(alloc: Global, text: &Pieces) -> Result<PlainText, Stop>
     Ok(expander.given)
 }
 
-// Whether no byte of a text is a `#`, and the name that is defined at the start stands nowhere in it.
+// Returns whether no byte of a text is a `#`, and the name that is defined at the start is bound nowhere in it.
 fn is_plain(text: &[u8]) -> bool
     ensures { result ≡ true → IsPlain text.now }
 {
@@ -391,7 +391,7 @@ fn stay(alloc: Global, text: &[u8]) -> Result<PlainText, Stop>
     Ok(PlainText::of(alloc, text)?)
 }
 
-/// The expansion of a text of at most 16,777,216 bytes, or its first fault, `BadDirective`, `BadMacro` or `ExpandTooMuch`, with its line.
+/// Returns the expansion of a text of at most 16,777,216 bytes, or its first fault, `BadDirective`, `BadMacro` or `ExpandTooMuch`, with its line.
 #[tactic(auto, unfolding(crate::specs::Expanded::expanded))]
 pub fn expand(alloc: Global, text: &[u8]) -> Result<PlainText, Stop>
     requires { length text.now ≤ 16777216 }

@@ -13,7 +13,7 @@ pub fn pieces_are_the_text()
     ensures { PiecesAreTheText }
 {}
 
-/// What an expansion has given stays, and more comes behind it.
+/// What an expansion has given stays, and more comes after it.
 pub fn given_bytes_stay()
     ensures { GivenBytesStay }
 {}
@@ -24,7 +24,7 @@ pub fn line_feeds_are_kept()
 {}
 
 /// A token outside what is replaced keeps its line: at each piece outside of calls to which an expansion comes, as many line feeds
-/// are given as stand before it in the text. A piece that names no macro is given as it is, and what comes of a name is on its line.
+/// are given as are before it in the text. A piece that names no macro is given as it is, and what comes of a name is on its line.
 pub fn tokens_keep_their_lines()
     ensures { TokensKeepTheirLines }
 {}

@@ -15,7 +15,7 @@ use lg_macro::{MOST_HELD, PieceKind, Pieces, PlainText, Spare, Table, Work, refu
 use lg_replacement::expand;
 use std::alloc::Global;
 
-// The place of the next piece that is no white space.
+// Returns the place of the next piece that is no white space.
 fn solid_at(pieces: &Pieces, from: usize) -> usize
     requires { from ≤ length pieces.now }
     ensures value { result ≡ solid_at pieces.now from }
@@ -33,7 +33,7 @@ fn solid_at(pieces: &Pieces, from: usize) -> usize
     at
 }
 
-// A name with its `)` behind it.
+// A name with its `)` after it.
 fn name_in_parens(pieces: &Pieces, name: usize) -> Option<(usize, usize)>
     requires { name ≤ length pieces.now }
     ensures value { result ≡ name_in_parens pieces.now name }
@@ -51,7 +51,7 @@ fn name_in_parens(pieces: &Pieces, name: usize) -> Option<(usize, usize)>
     }
 }
 
-// The place of the name that stands behind `defined`, and the place behind all of it.
+// Returns the place of the name that is after `defined`, and the place after all of it.
 fn asked(pieces: &Pieces, at: usize) -> Option<(usize, usize)>
     requires { at ≤ length pieces.now }
     ensures value { result ≡ asked pieces.now at }
@@ -68,7 +68,7 @@ fn asked(pieces: &Pieces, at: usize) -> Option<(usize, usize)>
     name_in_parens(pieces, solid_at(pieces, first + 1))
 }
 
-// Whether a piece is the word `defined`.
+// Returns whether a piece is the word `defined`.
 fn is_question(pieces: &Pieces, at: usize) -> bool
     requires { at < length pieces.now }
     ensures { result ≡ is_question (piece_at pieces.now at) }
@@ -76,7 +76,7 @@ fn is_question(pieces: &Pieces, at: usize) -> bool
     pieces.is_word_at(at) && pieces.text(at) == b"defined".as_slice()
 }
 
-// The name that is asked for at a place.
+// Returns the name that is asked for at a place.
 fn question_at(pieces: &Pieces, at: usize) -> Option<(usize, usize)>
     requires { at < length pieces.now }
     ensures value { result ≡ question_at pieces.now at }
@@ -108,7 +108,7 @@ fn push_answer(
     }
 }
 
-// Adds a piece, or the answer to what is asked there: the place behind it.
+// Adds a piece, or the answer to what is asked there: the place after it.
 fn push_resolved(
     out: &mut Pieces,
     table: &Table,
@@ -133,7 +133,7 @@ fn push_resolved(
     }
 }
 
-// The pieces with each `defined NAME` answered.
+// Returns the pieces with each `defined NAME` answered.
 fn resolved(alloc: Global, table: &Table, pieces: &Pieces) -> Result<Pieces, OutOfMemory>
     ensures { IfOk result (λ r. r ≡ resolved table.now pieces.now) }
 {
@@ -159,7 +159,7 @@ fn push_worth(out: &mut PlainText, pieces: &Pieces, at: usize) -> Result<(), Out
     }
 }
 
-// The bytes of an expression, behind those that are there.
+// The bytes of an expression, after those that are there.
 fn push_worth_of(out: &mut PlainText, pieces: &Pieces) -> Result<(), OutOfMemory>
     ensures { OnOk result (out.new ≡ out.old ++ worth_of pieces.now) }
 {
@@ -169,7 +169,7 @@ fn push_worth_of(out: &mut PlainText, pieces: &Pieces) -> Result<(), OutOfMemory
     Ok(())
 }
 
-// The token that an expression makes.
+// Returns the token that an expression makes.
 fn token_text(alloc: Global, pieces: &Pieces) -> Result<PlainText, OutOfMemory>
     ensures { IfOk result (λ r. r ≡ token_text (worth_of pieces.now)) }
 {
@@ -179,7 +179,7 @@ fn token_text(alloc: Global, pieces: &Pieces) -> Result<PlainText, OutOfMemory>
     Ok(text)
 }
 
-// The value of the expression that a token's text is.
+// Returns the value of the expression that a token's text is.
 fn value_in(text: &[u8]) -> Option<u64>
     requires { length text.now ≤ 16777216 }
     ensures { result ≡ value_in (length text.now) (tokens_of text.now).0 }
@@ -191,7 +191,7 @@ fn value_in(text: &[u8]) -> Option<u64>
     }
 }
 
-// The value of a token that is an expression and ends with the text.
+// Returns the value of a token that is an expression and ends with the text.
 fn whole_value(kind: TokenKind, end: usize, len: usize, value: u64) -> Option<u64>
     ensures { result ≡ (if is_expression kind && (end == len) then Some value else None) }
 {

@@ -1,4 +1,4 @@
--- One more step of the meaning, by what it comes to.
+-- One more step of the meaning, by its outcome.
 use Rattle.std.proofs.Common.{◌≡◌, ◌≢◌, ℕ, suc, ◌+◌, ◌<◌, ◌≤◌, true, false, List, [], Option, Some, None, inl, inr, refl, sym, ap, ◌∙◌, add-one, arith}
 use Rattle.std.specs.Prelude.{not, ◌&&◌, slice_get}
 use Rattle.std.proofs.lemmas.Bool.{cases_lt}
@@ -60,7 +60,7 @@ meant_below l meaning top k some below = at (slice_get l.nodes (meaning k).state
     at None e = some
     at (Some n) e = below (meaning k).state.at n e
 
--- an undefined step is not made, and no step behind it
+-- an undefined step is not made, and no step after it
 pub undefined_later : (l : LabelledNodes) (shape : TextShape) (A : List ℕ) (start : State) (n : ℕ) → (mean_from l shape A start n).status ≡ Running
     → (mean_from l shape A start (n + 1)).status ≡ Bad → (k : ℕ) → n ≤ k → has_meant (mean_from l shape A start) k ≡ false
 undefined_later l shape A start n here next k le = elim (cases_lt n k) [

@@ -6,7 +6,7 @@ use Rattle.std.proofs.lemmas.Bool.{cases_lt}
 use Rattle.lg_op.specs.declared.node.Node.{Node}
 use Rattle.lg_prof.specs.Places.{AreLines, ArePlaced, Holds, NeverFall}
 
--- the lines of the bytes of the first so many nodes
+-- the lines of the bytes of the first n nodes
 pub record HasLines (nodes : List Node) (places lines : List ℕ) (count : ℕ) : Type 0 where
   pub long : length lines ≡ slice_index places count
   pub each : (i place : ℕ) (n : Node) → i < count → slice_get nodes i ≡ Some n → Holds places i place → slice_get lines place ≡ Some n.line

@@ -1,4 +1,4 @@
--- One more step of a processor, by what it comes to.
+-- One more step of a processor, by its outcome.
 use Rattle.std.proofs.Common.{◌≡◌, ℕ, zero, suc, ◌-◌, ◌<◌, Bool, true, false, List, [], ◌∷◌, Option, Some, None, refl, sym, ap, ◌∙◌, add-one, arith}
 use Rattle.std.specs.Prelude.{not, ◌&&◌, unwrap_or, if◌then◌else◌, nat_le, drop}
 use Rattle.std.proofs.lemmas.Option.{same_Some}

@@ -90,7 +90,7 @@ line_is nodes places lines count are place = elim (found nodes places place coun
 pub tables : TablesHaveLines
 tables nodes places lines count are pc = ap (λ o. if nat_le code_base pc then o else None) (line_is nodes places lines count are (pc - code_base))
 
--- a line of a table stands in it
+-- a line of a table is in it
 pub in_table : (lines : List ℕ) (pc line : ℕ) → table_line lines pc ≡ Some line → slice_get lines (pc - code_base) ≡ Some line
 in_table lines pc line e = at (nat_le code_base pc) e
   where

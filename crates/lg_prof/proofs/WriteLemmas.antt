@@ -16,7 +16,7 @@ pub line_more : (ran spent : ℕ → ℕ) (line : ℕ) → table_below ran spent
 unfolding table_below
 line_more ran spent line = rw (add-one line) refl
 
--- the lines before a line, it, and those behind it
+-- the lines before a line, it, and those after it
 pub lines_split : (ran spent : ℕ → ℕ) (line top : ℕ) → line < top
     → (rest : List ℕ) × (table_below ran spent top ≡ table_below ran spent line ++ (told_line line (ran line) (spent line) ++ rest))
 lines_split ran spent line zero lt = absurd (omega (arith, lt))

@@ -16,7 +16,7 @@ is_bad Running = false
 is_bad (Ended status) = false
 is_bad Bad = true
 
--- the step behind the first n went or ended
+-- the step after the first n went or ended
 abbrev pub has_meant : (ℕ → Run) → ℕ → Bool
 has_meant meaning n = is_running (meaning n).status && not (is_bad (meaning (suc n)).status)
 

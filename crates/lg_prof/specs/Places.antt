@@ -17,7 +17,7 @@ pub record ArePlaced (nodes : List Node) (places : List ℕ) : Type 0 where
   pub first : slice_index places 0 ≡ 0
   pub order : NeverFall places
 
--- a table has for each place the line of the node whose bytes hold it, and ends behind the last place that a node's bytes hold
+-- a table has for each place the line of the node whose bytes hold it, and ends after the last place that a node's bytes hold
 pub record AreLines (nodes : List Node) (places lines : List ℕ) : Type 0 where
   pub each : (i place : ℕ) (n : Node) → slice_get nodes i ≡ Some n → Holds places i place → slice_get lines place ≡ Some n.line
   pub only : (place : ℕ) → place < length lines → (i : ℕ) × Holds places i place

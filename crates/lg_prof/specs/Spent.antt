@@ -40,7 +40,7 @@ is_fault Goes = false
 is_fault (EndedWith status) = false
 is_fault (Faulted kind) = true
 
--- the step behind the first n went or ended
+-- the step after the first n went or ended
 abbrev pub has_run : (ℕ → Run CpuState) → ℕ → Bool
 has_run run n = is_going (run n).progress && not (is_fault (run (suc n)).progress)
 

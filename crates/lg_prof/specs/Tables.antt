@@ -1,4 +1,4 @@
--- The lines that tell the numbers.
+-- The lines that report the numbers.
 use Rattle.std.specs.Prelude.{ℕ, zero, suc, ◌==◌, ◌&&◌, if◌then◌else◌, List, [], ◌∷◌, ◌++◌, length, codes}
 use Rattle.lg_io.specs.Wrote.{row}
 use Rattle.lg_io.specs.Radixes.{digits_in}
@@ -10,7 +10,7 @@ abbrev pub numbers_line : (line ran spent : ℕ) → List ℕ
 numbers_line line ran spent =
     row (codes "line " ∷ digits_in Decimal line ∷ codes " steps " ∷ digits_in Decimal ran ∷ codes " instructions " ∷ digits_in Decimal spent ∷ codes "\n" ∷ [])
 
--- a line is told where one of its numbers is not 0
+-- a line is reported where one of its numbers is not 0
 abbrev pub told_line : (line ran spent : ℕ) → List ℕ
 told_line line ran spent = if ran == 0 && spent == 0 then [] else numbers_line line ran spent
 

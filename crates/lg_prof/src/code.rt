@@ -11,7 +11,7 @@ use lg_base::layout::CODE_BASE;
 use lg_cpu::{Cpu, CpuStep};
 use lg_io::Sink;
 
-// The line of a program counter, and the one before where it lies in no node's bytes.
+// Returns the line of a program counter, and the one before where it lies in no node's bytes.
 fn line_at(lines: &LineTable, pc: u64, before: u32) -> u32
     ensures { result ≡ unwrap_or (table_line lines.now pc) before }
 {

@@ -12,7 +12,7 @@ pub fn spent_steps_add_up()
     ensures { SpentAddsUp }
 {}
 
-/// A table of the lines of code tells the line of each program counter.
+/// A table of the lines of code gives the line of each program counter.
 pub fn tables_have_the_lines()
     ensures { TablesHaveLines }
 {}

@@ -22,7 +22,7 @@ impl Model for LineTable {
     ghost view = { λ t. t.lines.items };
 }
 
-// Appends a line as often as makes so many.
+// Appends a line as often as makes this many.
 fn fill(lines: &mut Vec<u32>, count: u32, line: u32) -> Result<(), OutOfMemory>
     requires { length lines.old.items ≤ count }
     ensures long { OnOk result (length lines.new.items ≡ count) }
@@ -33,7 +33,7 @@ fn fill(lines: &mut Vec<u32>, count: u32, line: u32) -> Result<(), OutOfMemory>
 }
 
 impl LineTable {
-    /// The lines of the places of nodes, in one run over the nodes. It takes 4 bytes for each byte of the code.
+    /// Returns the lines of the places of nodes, in one run over the nodes. It takes 4 bytes for each byte of the code.
     pub fn new(alloc: Global, nodes: &NodeList, places: &Places) -> Result<LineTable, OutOfMemory>
         requires { ArePlaced nodes.now.nodes places.now.items }
         ensures { IfOk result (λ t. AreLines nodes.now.nodes places.now.items t) }
@@ -45,7 +45,7 @@ impl LineTable {
         Ok(LineTable { lines })
     }
 
-    /// The line of a place, and None where no node's bytes hold it. It takes the same time for each place.
+    /// Returns the line of a place, or `None` if no node's bytes hold it. It takes the same time for each place.
     pub fn get(&self, place: u64) -> Option<u32>
         ensures { result ≡ slice_get self.now place }
     {

@@ -13,9 +13,9 @@ use lg_mean::{MeanStep, Portable};
 use lg_meaning::laws::steps_are_those_of_the_meaning;
 use lg_node::{Shape, Unit};
 
-/// Takes at most so many steps of the portable meaning of a text, from the state before its first step, into a sink that keeps nothing, and counts each
-/// that went or ended for the line of its node. There are fewer than `u64::MAX`; the lines of the nodes are those of the tally, which has counted no
-/// step of the meaning.
+/// Takes at most this many steps of the portable meaning of a text, from the state before its first step, into a sink that keeps nothing, and counts each
+/// that went or ended for the line of its node. There are fewer than `u64::MAX`; the lines of the nodes are those of the tally, which has counted no step of
+/// the meaning.
 pub fn count_meaning(
     machine: &mut Portable,
     unit: &Unit,

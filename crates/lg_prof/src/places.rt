@@ -5,7 +5,7 @@ ghost use Rattle.lg_prof.specs.Places.{Holds, NeverFall};
 
 use lg_base::Places;
 
-/// The node whose bytes hold a place of the code, and None exactly where none does. No place of the list is below the one before it.
+/// Returns the node whose bytes hold a place of the code, or `None` exactly when none does. No place of the list is below the one before it.
 pub fn node_at(places: &Places, place: u32) -> Option<u32>
     requires { NeverFall places.now.items }
     ensures held { IfSome result (λ i. Holds places.now.items i place) }

@@ -77,7 +77,7 @@ fn write_line<E: Sink>(line: u64, ran: u64, spent: u64, err: &mut E) -> Result<(
 }
 
 impl Tally {
-    /// The numbers of the lines of nodes, all of them 0. It takes 16 bytes for each line up to the greatest.
+    /// Returns the numbers of the lines of nodes, all of them 0. It takes 16 bytes for each line up to the greatest.
     pub fn new(alloc: Global, nodes: &NodeList) -> Result<Tally, OutOfMemory>
         ensures below { IfOk result (λ t. AreBelow nodes.now.nodes (length t)) }
         ensures some { IfOk result (λ t. 0 < length t) }
@@ -110,7 +110,7 @@ impl Tally {
         self.counts[line as usize].spent += 1;
     }
 
-    /// The steps of the text and those of the code at a line: both are 0 at a line that no node has.
+    /// Returns the steps of the text and those of the code at a line: both are 0 at a line that no node has.
     pub fn of(&self, line: u32) -> (u64, u64)
         ensures { result ≡ (ran_at self.now line, spent_at self.now line) }
     {
@@ -120,8 +120,8 @@ impl Tally {
         }
     }
 
-    /// Writes `line L steps S instructions I` for each line of which one number is not 0, rising. After a fault some of the bytes were
-    /// written, from the first one on, and not all.
+    /// Writes `line L steps S instructions I` for each line one of whose numbers is not 0, rising. After a fault some of the bytes were written, from the
+    /// first one on, and not all.
     pub fn write<E: Sink>(&self, err: &mut E) -> Result<(), SinkFault>
         ensures { Wrote (E.taken err.old) (E.taken err.new) (E.faults err.old) (E.faults err.new) result (table self.now) }
     {

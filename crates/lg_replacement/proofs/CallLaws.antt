@@ -110,7 +110,7 @@ is_pasted line before behind = record {
   pasted = λ front x y back e f. ap₂ (joined line) e f ∙ joined_last line front x y back;
 }
 
--- the pieces of a body before which ## stands, and what comes behind them
+-- the pieces of a body before which ## stands, and what comes after them
 record HasRun (line : ℕ) (raw full : List (List Piece)) (body : List Piece) (marks : List Mark) : Type 0 where
   glued : List Piece
   marked : List Mark
@@ -267,7 +267,7 @@ call_feeds line given (p ∷ rest) =
     ∙ append-again given (replicate (feeds_of p.text) (feed line)) (feeds_behind line rest)
     ∙ ap (λ l. given ++ l) (replicate-append-replicate (feeds_of p.text) (feeds_of (bytes_of rest)) (feed line) ∙ ap (λ k. replicate k (feed line)) (sym (feeds_append p.text (bytes_of rest))))
 
--- ---- what stands behind a call
+-- ---- what is after a call
 
 bind_same : {A B : Type 0} (o : Result A Refusal) (f g : A → Result B Refusal) → ((a : A) → f a ≡ g a) → (o >>= f) ≡ (o >>= g)
 bind_same (Ok a) f g h = h a

@@ -114,7 +114,7 @@ called_gives : (inner : Expander) (p : Piece) (hidden : List ℕ) (place : ℕ) 
 unfolding called
 called_gives inner p hidden place m given next call raw arguments line same e e2 = rw (← e, ← same, e2) refl
 
--- the pieces of a call behind its name
+-- the pieces of a call after its name
 call_between : (at begun len : ℕ) (pieces : List Piece) → between (at + 1) (at + 1 + begun + len + 1) pieces ≡ take (begun + len + 1) (drop (at + 1) pieces)
 call_between at begun len pieces = let e : at + 1 + begun + len + 1 - (at + 1) ≡ begun + len + 1 = omega arith in rw e refl
 

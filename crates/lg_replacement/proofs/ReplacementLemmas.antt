@@ -72,7 +72,7 @@ plain-body : (line : ℕ) (m : Macro) → IsPlain m → substituted line m.body 
 unfolding substituted
 plain-body line m h = filled-plain line m.body m.marks [] [] h.marked h.plain
 
--- an outcome with no piece taken behind the name, and what follows
+-- an outcome with no piece taken after the name, and what follows
 pub behind-name : (o : Outcome) (rest : List Piece) (f : List Piece → Given → Outcome) → (behind_name o >>= (λ t. f (drop t.0 rest) t.1)) ≡ (o >>= f rest)
 behind-name (Ok g) rest f = refl
 behind-name (Err fault) rest f = refl

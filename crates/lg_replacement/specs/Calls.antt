@@ -14,7 +14,7 @@ use Rattle.lg_macro.specs.declared.macros.Mark.{Mark}
 
 -- ---- calls
 
--- pieces in which parentheses match; a comma stands outside of them only where that is allowed
+-- pieces in which parentheses match; a comma is outside of them only where that is allowed
 pub data IsBalanced : Bool → List Piece → Type 0 where
   empty : (commas : Bool) → IsBalanced commas []
   other : (commas : Bool) (p : Piece) (rest : List Piece) → is_byte 40 p.kind ≡ false → is_byte 41 p.kind ≡ false → (is_byte 44 p.kind ≡ true → commas ≡ true)
@@ -51,7 +51,7 @@ AreArguments line parts arguments = ⊥
 abbrev pub AreSoMany : ℕ → (given arguments : List (List Piece)) → Type 0
 AreSoMany arity given arguments = ((arguments ≡ given) × (length given ≡ arity)) ⊎ ((arity ≡ 0) × (given ≡ [] ∷ []) × (arguments ≡ []))
 
--- the pieces behind a name are a call of it with these arguments: white space, and arguments in parentheses
+-- the pieces after a name are a call of it with these arguments: white space, and arguments in parentheses
 pub record IsCall (line arity : ℕ) (call : List Piece) (arguments : List (List Piece)) : Type 0 where
   pub white : List Piece
   pub left : Piece
@@ -69,32 +69,32 @@ pub record IsCall (line arity : ℕ) (call : List Piece) (arguments : List (List
 
 -- ---- arguments in place of parameters, and ##
 
--- what a piece of a body stands for: itself, or the argument of its parameter, which beside ## stands as it is written, and else expanded
+-- what a piece of a body denotes: itself, or the argument of its parameter, which beside ## is as it is written, and else expanded
 pub record StandsFor (line : ℕ) (raw full : List (List Piece)) (p : Piece) (mark : Mark) (part : List Piece) : Type 0 where
   pub itself : mark.parameter ≡ None → part ≡ on_line line p ∷ []
   pub beside : (k : ℕ) → mark.parameter ≡ Some k → (mark.glued || mark.glues) ≡ true → part ≡ slice_index_or raw k []
   pub apart : (k : ℕ) → mark.parameter ≡ Some k → (mark.glued || mark.glues) ≡ false → part ≡ slice_index_or full k []
 
--- what stands on both sides of a ## put together: the last piece and the first one are one text, that is cut anew; and nothing is put to the other side
+-- what is on both sides of a ## put together: the last piece and the first one are one text, that is cut anew; and nothing is put to the other side
 pub record IsPasted (line : ℕ) (before behind both : List Piece) : Type 0 where
   pub none_before : before ≡ [] → both ≡ behind
   pub none_behind : behind ≡ [] → both ≡ before
   pub pasted : (front : List Piece) (x y : Piece) (back : List Piece) → before ≡ front ++ (x ∷ []) → behind ≡ y ∷ back
       → both ≡ front ++ (cut line (x.text ++ y.text) ++ back)
 
--- a ## stands before each of these parts: they are put together from the left
+-- a ## is before each of these parts: they are put together from the left
 abbrev pub ArePasted : ℕ → List Piece → List (List Piece) → List Piece → Type 0
 ArePasted line first [] whole = whole ≡ first
 ArePasted line first (part ∷ parts) whole = (both : List Piece) × IsPasted line first part both × ArePasted line both parts whole
 
--- pieces of a body before each of which a ## stands, with what they stand for
+-- pieces of a body before each of which a ## stands, with what they denote
 abbrev pub AreGlued : ℕ → (raw full : List (List Piece)) → List Piece → List Mark → List (List Piece) → Type 0
 AreGlued line raw full [] [] [] = Unit {0}
 AreGlued line raw full (p ∷ body) (mark ∷ marks) (part ∷ parts) =
     (mark.glued ≡ true) × StandsFor line raw full p mark part × AreGlued line raw full body marks parts
 AreGlued line raw full body marks parts = ⊥
 
--- a body with its arguments: each piece stands for what it stands for, and pieces with ## between them for all of it put together
+-- a body with its arguments: each piece denotes what it denotes, and pieces with ## between them for all of it put together
 pub data IsFilled (line : ℕ) (raw full : List (List Piece)) : List Piece → List Mark → List Piece → Type 0 where
   bare : IsFilled line raw full [] [] []
   chain : (p : Piece) (mark : Mark) (first glued : List Piece) (marked : List Mark) (parts : List (List Piece))
@@ -102,7 +102,7 @@ pub data IsFilled (line : ℕ) (raw full : List (List Piece)) : List Piece → L
       → mark.glued ≡ false → StandsFor line raw full p mark first → AreGlued line raw full glued marked parts → ArePasted line first parts whole
       → IsFilled line raw full body marks out → IsFilled line raw full (p ∷ (glued ++ body)) (mark ∷ (marked ++ marks)) (whole ++ out)
 
--- no ## stands before the first piece of a body
+-- no ## is before the first piece of a body
 abbrev pub BeginsApart : List Mark → Type 0
 BeginsApart [] = Unit {0}
 BeginsApart (mark ∷ marks) = mark.glued ≡ false
@@ -138,8 +138,8 @@ PastedBodiesReplaceNames = (table : List Macro) (n line place : ℕ) (hidden : L
     → expand_in table (suc n) line hidden (p ∷ rest) given
     ≡ ((counted p.line m given.1 >>= (λ sum. expand_in table n p.line (hidden ++ place ∷ []) out (given.0, sum))) >>= expand_in table (suc n) line hidden rest)
 
--- a name with parameters, and a call of it behind the name: both are replaced by the body with the arguments in it, which is scanned again with the name
--- hidden; the line feeds of the call follow, and then what stands behind the call
+-- a name with parameters, and a call of it after the name: both are replaced by the body with the arguments in it, which is scanned again with the name
+-- hidden; the line feeds of the call follow, and then what is after the call
 abbrev pub CallsReplaceNames : Type 0
 CallsReplaceNames = (table : List Macro) (n line place arity : ℕ) (hidden : List ℕ) (p : Piece) (m : Macro) (call rest : List Piece) (given : Given)
     (sum sum' : ℕ) (raw full : List (List Piece)) (out : List Piece)

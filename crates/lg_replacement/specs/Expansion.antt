@@ -24,7 +24,7 @@ Outcome = Result Given Refusal
 abbrev pub Expander : Type 0
 Expander = ℕ → List ℕ → List Piece → Given → Outcome
 
--- one name and what belongs to it is done: how many pieces behind it, and what is given then
+-- one name and what belongs to it is done: how many pieces after it, and what is given then
 abbrev pub Step : Type 0
 Step = Result (ℕ × Given) Refusal
 
@@ -67,7 +67,7 @@ unfoldable pub replaced : Expander → ℕ → List ℕ → ℕ → Macro → Gi
 replaced inner line hidden place m given raw = counted line m given.1
     >>= (λ sum. each inner line hidden raw [] sum >>= put_full inner line hidden place m given.0 raw)
 
--- a call, by its pieces behind the name and its arguments
+-- a call, by its pieces after the name and its arguments
 unfoldable pub called : Expander → Piece → List ℕ → ℕ → Macro → Given → List Piece → Option (List (List Piece)) → Step
 called inner p hidden place m given call None = refuse BadMacro p.line
 called inner p hidden place m given call (Some raw) = behind_call p.line call (replaced inner p.line hidden place m given raw)
@@ -101,14 +101,14 @@ at_name table inner p hidden given rest (Some place) = at_macro inner p hidden p
 unfoldable pub step : List Macro → Expander → List ℕ → Piece → List Piece → Given → Step
 step table inner hidden p rest given = at_name table inner p hidden given rest (named table p)
 
--- piece after piece, at most so many
+-- piece after piece, at most this many
 unfoldable pub walk : List Macro → Expander → ℕ → List ℕ → List Piece → Given → Outcome
 walk table inner k hidden [] given = Ok given
 walk table inner zero hidden (p ∷ rest) given = Ok given
 walk table inner (suc k) hidden (p ∷ rest) given =
     step table inner hidden p rest given >>= (λ s. walk table inner k hidden (drop s.0 rest) s.1)
 
--- an expansion in which so many further ones may be nested: none at all where no level is left
+-- an expansion in which this many further ones may be nested: none at all where no level is left
 unfoldable pub expand_in : List Macro → ℕ → Expander
 expand_in table zero line hidden pieces given = refuse ExpandTooMuch line
 expand_in table (suc n) line hidden pieces given = walk table (expand_in table n) (length pieces) hidden pieces given

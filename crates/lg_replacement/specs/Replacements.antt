@@ -37,7 +37,7 @@ pub record IsPlain (m : Macro) : Type 0 where
   pub marked : length m.marks ≡ length m.body
   pub plain : AllByRecursion StandsForItself m.marks
 
--- its body stands in its place, on its line, and is scanned again for further names with this one hidden; what follows comes behind it
+-- its body is in its place, on its line, and is scanned again for further names with this one hidden; what follows comes after it
 abbrev pub BodiesReplaceNames : Type 0
 BodiesReplaceNames = (table : List Macro) (n line place : ℕ) (hidden : List ℕ) (p : Piece) (m : Macro) (rest : List Piece) (given : Given)
     → named table p ≡ Some place → slice_get table place ≡ Some m → is_hidden hidden place ≡ false → IsPlain m

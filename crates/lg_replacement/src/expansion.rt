@@ -16,7 +16,7 @@ use lg_macro::{
     Macro, PieceKind, Pieces, Table, Work, count, hold, is_hidden, refused, substituted,
 };
 
-// The macro that a piece names.
+// Returns the macro that a piece names.
 fn named(table: &Table, pieces: &Pieces, at: usize) -> Option<usize>
     requires { at < length pieces.now }
     ensures value { result ≡ named table.now (piece_at pieces.now at) }
@@ -28,7 +28,7 @@ fn named(table: &Table, pieces: &Pieces, at: usize) -> Option<usize>
     }
 }
 
-/// Expands pieces, with at most so many expansions nested.
+/// Expands pieces, with at most this many expansions nested.
 #[cycle(expand)]
 pub fn expand(
     table: &Table,

@@ -18,14 +18,14 @@ pub fn bodies_replace_names()
     ensures { BodiesReplaceNames }
 {}
 
-/// Such a body may have `##`: what stands on both sides of it is put together first.
+/// Such a body may have `##`: what is on both sides of it is put together first.
 pub fn pasted_bodies_replace_names()
     ensures { PastedBodiesReplaceNames }
 {}
 
 /// A name with parameters and a call of it are replaced by the body, with an argument in place of each parameter: expanded, and beside `##` as it is written,
-/// with what stands on both sides of a `##` put together. The body is scanned again with the name hidden, and the line feeds of the call follow it. Each body
-/// can be filled so, where no `##` begins it.
+/// with what is on both sides of a `##` put together. The body is scanned again with the name hidden, and the line feeds of the call follow it. Each body can
+/// be filled so, where no `##` begins it.
 pub fn calls_replace_names()
     ensures replaced { CallsReplaceNames }
     ensures filled { BodiesAreFilled }

@@ -45,7 +45,7 @@ module _ (c : Command) (held : Option NamedTexts) (code : Assembled) (made : IsC
     | inr past ↦ inr (a.0, a.2, past.bad)
   ]
 
-  -- where it faulted behind n steps, the meaning became undefined
+  -- where it faulted after n steps, the meaning became undefined
   pub undefined_at : (n : ℕ) (kind : FaultKind) → (code_run c code made.unit (n + 1)).progress ≡ Faulted kind → IsUndefinedWithin ((n + 2) * (count + 1)) (code_meaning c code made.unit)
   undefined_at n kind faulted = let a = agrees_at (n + 1) in elim a.3 [
     | inl same ↦ absurd (same.sound (ap status_of faulted))

@@ -26,7 +26,7 @@ use Rattle.lg_run.proofs.OverLemmas.{bad_running, ended_running}
 use Rattle.lg_run.proofs.RefusedLemmas.{back_no_text, call_for_room, call_once, call_stays, text_same}
 use Rattle.lg_run.proofs.SameLemmas.{answer_same, none_some, ok_same, some_same}
 
--- ---- want of memory
+-- ---- out of memory
 memory_run : (p : Progress) → AnswersRun p OutOfMemory
 memory_run Goes = inr refl
 memory_run (EndedWith status) = inr refl
@@ -68,7 +68,7 @@ ended_goes : {s : ℕ} → EndedWith s ≡ Goes → ⊥
 ended_goes e = cc
 
 module _ (c : Command) (held : Option NamedTexts) (code : Assembled) (made : IsCodeOf c held code) where
-  -- where the run has come to an end in time, it stands there after the most steps
+  -- where the run has ended in time, it is there after the most steps
   over_at : (n : ℕ) (p : Progress) → n ≤ c.steps → (code_run c code made.unit n).progress ≡ p → (status_of p ≡ Running → ⊥) → (code_run c code made.unit c.steps).progress ≡ p
   over_at n p le is over = ap (λ r. r.progress) (run_later c held code made n c.steps le (λ r. over (ap status_of (sym is) ∙ r))) ∙ is
 
@@ -235,7 +235,7 @@ module _ (c : Command) (told : NamedTexts) (out : SinkChange) (code : Option Ass
           let full = (call_for_room c told fit.text unit q fit.reads fit.accepted fit.fits fit.given says.1).1 in
           let enough = fit.room in omega (arith, full, enough)
 
--- whatever the texts tell
+-- whatever the texts show
 module _ (c : Command) (held : Option NamedTexts) (out : SinkChange) (code : Option Assembled) (steps : ℕ) where
   ran_code : (a : Answer) → Ran c held code steps out a → (a ≡ WriteFault → ⊥) → AnswersCode c held code a
   ran_code a r other = record {

@@ -1,4 +1,4 @@
--- What is told besides of what was done, and the lines that explain an answer.
+-- What is said besides of what was done, and the lines that explain an answer.
 use Rattle.std.proofs.Common.{◌≡◌, ℕ, Bool, true, false, inl, inr, List, [], ◌∷◌, Option, Some, None, refl, sym, ap, ◌∙◌, subst}
 use Rattle.std.specs.Prelude.{◌&&◌, if◌then◌else◌}
 use Rattle.std.specs.Str.{bytes_eq}
@@ -37,12 +37,12 @@ use Rattle.lg_run.proofs.ProfileLemmas.{no_table}
 use Rattle.lg_run.proofs.RefusedLemmas.{text_same}
 use Rattle.lg_run.proofs.SameLemmas.{ok_same, some_same}
 
--- ---- where nothing is told
+-- ---- where nothing is reported
 and_false : (b : Bool) → (b && false) ≡ false
 and_false true = refl
 and_false false = refl
 
--- the meaning that is explained has no table, and where it is undefined that is told
+-- the meaning that is explained has no table, and where it is undefined that is reported
 pub explain_tells : (c : Command) (code : Assembled) (unit : TextUnit) (p : Profiled) → c.mode ≡ mode.Explain → p.tally ≡ None
     → StuckWhere (is_undefined p.ran.answer) unit.nodes (shape_of_unit unit) code.labels (code_meaning c code unit p.ran.steps).state p.stuck → RanTells c code unit p
 explain_tells c code unit p is none stuck = (
@@ -50,13 +50,13 @@ explain_tells c code unit p is none stuck = (
   subst (λ m. StuckFor (tells_stuck m p.ran.answer) c code unit p.ran.steps p.stuck) (sym is) stuck,
 )
 
--- where the mode is another one, or the step is not undefined, nothing is told
+-- where the mode is another one, or the step is not undefined, nothing is reported
 pub stuck_none : (c : Command) (held : Option NamedTexts) (code : Option Assembled) (steps : ℕ) (a : Answer) (stuck : Option StuckAt) → is_undefined a ≡ false → stuck ≡ None
     → StuckIn (tells_stuck c.mode a) c held code steps stuck
 stuck_none c held code steps a stuck other none =
     subst (λ b. StuckIn b c held code steps stuck) (sym (ap (λ b. is_explain c.mode && b) other ∙ and_false (is_explain c.mode))) none
 
--- nothing is told of what stopped before it ran
+-- nothing is reported of what stopped before it ran
 pub stopped_tells : (c : Command) (held : Option NamedTexts) (w : Worked) (d : Done) (a : Answer) → w.done ≡ d → w.tally ≡ None → w.stuck ≡ None → d.answer ≡ a → is_run_end a ≡ false → is_undefined a ≡ false
     → WorkTells c held w
 stopped_tells c held w d a done tally stuck is end defined =
@@ -65,13 +65,13 @@ stopped_tells c held w d a done tally stuck is end defined =
       stuck_none c held w.done.code w.done.steps w.done.answer w.stuck (ap is_undefined same ∙ defined) stuck,
     )
 
--- what is told of code is told of the call
+-- what is said of code is said of the call
 pub stuck_tells : (c : Command) (held : Option NamedTexts) (code : Assembled) (made : IsCodeOf c held code) (b : Bool) (steps : ℕ) (stuck : Option StuckAt) → StuckFor b c code made.unit steps stuck
     → StuckIn b c held (Some code) steps stuck
 stuck_tells c held code made false steps stuck h = h
 stuck_tells c held code made true steps stuck h = record { ran = code; is = refl; made = made; at = h.0; told = h.1; why = h.2 }
 
--- what is told stays told where what was read is kept
+-- what is shown stays shown where what was read is kept
 pub kept_tells : (c : Command) (read : List ℕ) (d w : Worked) → w.done ≡ d.done → w.tally ≡ d.tally → w.stuck ≡ d.stuck → ReadTold c read d → ReadTold c read w
 kept_tells c read d w done tally stuck told held under =
     subst (λ (x : Done × Option (List Counts) × Option StuckAt). Tells x.0 x.1 x.2) (λ i. (sym done i, sym tally i, sym stuck i)) (told held under)
@@ -226,8 +226,8 @@ kept_explains c read out d w done stuck kept word says told held under = by (is_
         subst (λ b. Explains b w.done w.stuck w.read) (sym is)
         (subst (λ (x : Done × Option StuckAt × Option (Vec ℕ)). Explains true x.0 x.1 x.2) (λ i. (sym done i, sym stuck i, sym kept i)) here)
 
--- ---- memory that was wanted for the word
--- a refusal leaves all as it was, so want of memory behind it does too
+-- ---- memory that was requested for the word
+-- a refusal leaves all as it was, so running out of memory after it does too
 still_of : (c : Command) (held : Option NamedTexts) (code : Option Assembled) (steps : ℕ) (out : SinkChange) (a : Answer) → is_refused a ≡ true → AnswerSays c held code steps out a → out.taken' ≡ out.taken
 still_of c held code steps out (Ended status) e h = cc
 still_of c held code steps out Listed e h = cc

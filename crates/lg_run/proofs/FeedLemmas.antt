@@ -95,7 +95,7 @@ head_is t count = record {
   free = two (codes "; " ++ target_word t ++ codes " ") (decimal count) (two (codes "; " ++ target_word t) (codes " ") (two (codes "; ") (target_word t) refl (target_free t)) refl) (decimal_free count);
 }
 
--- ---- so many lines have so many line feeds
+-- ---- n lines have n line feeds
 feeds-append : (xs ys : List ℕ) → feeds (xs ++ ys) ≡ feeds xs + feeds ys
 feeds-append [] ys = omega arith
 feeds-append (x ∷ xs) ys = let rest = feeds-append xs ys in omega arith

@@ -1,4 +1,4 @@
--- Code that was assembled is code of which a listing tells.
+-- Code that was assembled is code that a listing describes.
 use Rattle.std.proofs.Common.{◌≡◌, ℕ, ◌≤◌, true, List, [], ◌∷◌, ◌++◌, length, Some, refl, sym, ap, ap₂, ◌∙◌, subst, arith}
 use Rattle.std.specs.Prelude.{IsTrue, map, slice_get, slice_index}
 use Rattle.std.specs.List.{All}

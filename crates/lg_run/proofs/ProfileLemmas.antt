@@ -74,7 +74,7 @@ pub table_lines_below : (nodes : List Node) (places lines : List ℕ) (top : ℕ
     → (place line : ℕ) → slice_get lines place ≡ Some line → line < top
 table_lines_below nodes places lines top count are below place line here = line_of_node nodes places place line top below (sym (line_is nodes places lines count are place) ∙ here)
 
--- ---- where a table is told
+-- ---- where a table is reported
 pub told_in_profile : (m : Mode) (a : Answer) → m ≡ mode.Profile → tells_table m a ≡ is_run_end a
 told_in_profile m a is = ap (λ n. tells_table n a) is
 
@@ -85,7 +85,7 @@ not_told m a is = ap (λ b. is_profile m && b) is ∙ at (is_profile m)
     at true = refl
     at false = refl
 
--- nothing is told with other answers
+-- nothing is reported with other answers
 pub no_table : (c : Command) (held : Option NamedTexts) (code : Option Assembled) (steps : ℕ) (a : Answer) (tally : Option (List Counts)) → is_run_end a ≡ false → tally ≡ None
     → TableIn (tells_table c.mode a) c held code steps (table_of tally)
 no_table c held code steps a tally other none = subst (λ b. TableIn b c held code steps (table_of tally)) (sym (not_told c.mode a other)) (ap table_of none)
@@ -184,7 +184,7 @@ add_up counts_law spent_law c held code made top some below = (
   λ steps out a says. steps_add_up c held code made spent_law top some below c.steps steps out a says,
 )
 
--- ---- the numbers that are told of a run: none where it did not come to its end
+-- ---- the numbers that are reported of a run: none where the run did not end
 pub none_told : (b : Bool) (unit : TextUnit) (shape : TextShape) (s : Start) (most steps : ℕ) (t : List Counts) → b ≡ false
     → TalliesFor b unit shape s most steps (if b then Some t else None)
 none_told false unit shape s most steps t e = refl

@@ -96,7 +96,7 @@ listing_stays read r target bytes (inr a) short is = bad-none read r.line target
 pub listings_once : ListingsAreRefusedOnce
 listings_once read r refused = (λ q other. listing_once read q r other refused, λ target bytes short is. listing_stays read r target bytes refused short is)
 
--- ---- calls, where the texts are told
+-- ---- calls, where the texts are shown
 back_once : (c : Command) (told : NamedTexts) (r q : Refusal) → IsRefusedBack c (Some told) r → IsRefusedBack c (Some told) q → r ≡ q
 back_once c told r q a b = listing_once b.0 r q (subst (λ t. IsRefusedListing t r) (some_same (sym a.1 ∙ b.1)) a.2) b.2
 

@@ -1,4 +1,4 @@
--- Constructors are told apart, and equal ones hold the same.
+-- Constructors are distinguished, and equal ones hold the same.
 use Rattle.std.proofs.Common.{◌≡◌, ℕ, Some, None}
 use Rattle.std.specs.Prelude.{Result, Ok}
 use Rattle.lg_base.specs.Runs.{Ended}

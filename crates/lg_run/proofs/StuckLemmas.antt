@@ -1,4 +1,4 @@
--- Where the portable machine stands before a step that is undefined.
+-- Where the portable machine is before a step that is undefined.
 use Rattle.std.proofs.Common.{◌≡◌, ℕ, ◌-◌, List, Option, Some, refl, sym, ap, ◌∙◌, subst, arith}
 use Rattle.lg_explain.specs.Stops.{IsStuck}
 use Rattle.lg_explain.specs.declared.stop.StuckAt.{StuckAt}
@@ -19,14 +19,14 @@ use Rattle.lg_run.specs.Means.{answer_of}
 use Rattle.lg_run.specs.declared.answer.Answer.{Answer}
 use Rattle.lg_run.proofs.OverLemmas.{bad_running, ended_bad}
 
--- a run that becomes bad behind an outcome does so by one that is undefined
+-- a run that becomes bad after an outcome does so by one that is undefined
 undefined_of : (s : State) (out : List ℕ) (o : Outcome) → (behind (run_at s out) o).status ≡ Bad → o ≡ Undefined
 undefined_of s out (Goes t bytes) e = absurd (bad_running (sym e))
 undefined_of s out (Ends status) e = absurd (ended_bad e)
 undefined_of s out Undefined e = refl
 
 module _ (law : StepsAreMeans) (l : LabelledNodes) (shape : TextShape) (A : List ℕ) (start : State) (most : ℕ) (s : State) (c : SinkChange) where
-  -- a run that came to an undefined step stands before it
+  -- a run that came to an undefined step is before it
   pub step_undefined : (end : RunEnd) (n : ℕ) → ComesTo (mean_from l shape A start) end n most s (line_at l s) c.taken c.taken' c.faults c.faults' → IsStepUndefined end l shape A s
   step_undefined (runs_end.Ended status) n h = tt
   step_undefined (runs_end.Undefined line) n h =
@@ -34,7 +34,7 @@ module _ (law : StepsAreMeans) (l : LabelledNodes) (shape : TextShape) (A : List
   step_undefined runs_end.StepsOut n h = tt
   step_undefined runs_end.WriteFault n h = tt
 
-  -- what is told of it is told of the meaning
+  -- what is said of it is said of the meaning
   stuck_there : (end : RunEnd) (n : ℕ) (stuck : Option StuckAt) → ComesTo (mean_from l shape A start) end n most s (line_at l s) c.taken c.taken' c.faults c.faults'
       → StuckWhere (is_undefined (answer_of end)) l shape A s stuck → StuckWhere (is_undefined (answer_of end)) l shape A (mean_from l shape A start n).state stuck
   stuck_there (runs_end.Ended status) n stuck h told = told

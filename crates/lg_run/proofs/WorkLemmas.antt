@@ -104,7 +104,7 @@ module _ (c : Command) (code : Assembled) (unit : TextUnit) (out : SinkChange) (
   no_read mode.Profile h = h
   no_read mode.Explain h = h
 
-  -- a run tells no fault of texts
+  -- a run reports no fault of texts
   pub run_reads : (m : Mode) (a : Answer) → StartSays m c code unit out steps a → TellsNoRead a
   run_reads m (Ended status) h t e = e
   run_reads m Listed h t e = e

@@ -9,7 +9,7 @@ use Rattle.lg_run.specs.Says.{AskedSays, ReportSays, lines_of}
 use Rattle.lg_run.specs.declared.answer.Answer.{Answer}
 use Rattle.lg_run.specs.declared.answer.Done.{Done}
 
--- the clause of the top call: what the inner answer says, and that the table of a profile, the lines of that answer and those that explain it stand on err
+-- the clause of the top call: what the inner answer says, and that the table of a profile, the lines of that answer and those that explain it are on err
 pub record Says (words : List (List ℕ)) (texts : TextsChange) (out err : SinkChange) (done : Done) : Type 0 where
   pub asked : Option Command
   pub inner : Answer

@@ -35,12 +35,11 @@ pub record HasBack (words : List (List ℕ)) (held : Option NamedTexts) (code : 
   pub asked : IsCommand words command
   pub wrote : WroteBack command held code steps out Listed
 
--- the meaning becomes undefined within so many steps
+-- the meaning becomes undefined within this many steps
 abbrev pub IsUndefinedWithin : ℕ → (ℕ → means.Run) → Type 0
 IsUndefinedWithin most meaning = (k : ℕ) × (k ≤ most) × ((meaning k).status ≡ Bad)
 
--- where the run of code goes on after all its steps: the meaning of so many nodes has not ended within a sixty-fourth of them, unless it
--- became undefined
+-- where the run of code goes on after all its steps: the meaning of n nodes has not ended within a sixty-fourth of them, unless it became undefined
 abbrev pub Lasts : (nodes steps : ℕ) → (ℕ → means.Run) → Type 0
 Lasts nodes steps meaning = ((k : ℕ) → k ≤ steps / 64 → HasMeant meaning k) ⊎ IsUndefinedWithin ((steps + 1) * (nodes + 1)) meaning
 
@@ -54,11 +53,11 @@ StepsOutCause mode.Back c code unit = ⊥
 StepsOutCause mode.Profile c code unit = HasRun (code_run c code unit) c.steps × Lasts (length unit.nodes.nodes) c.steps (code_meaning c code unit)
 StepsOutCause mode.Explain c code unit = HasMeant (code_meaning c code unit) c.steps
 
--- the run of code faulted behind so many steps
+-- the run of code faulted after this many steps
 abbrev pub FaultCause : (steps : ℕ) → Command → Assembled → TextUnit → Type 0
 FaultCause steps c code unit = RunsCode c.mode × IsUndefinedWithin ((steps + 2) * (length unit.nodes.nodes + 1)) (code_meaning c code unit)
 
--- the step of the meaning behind so many is the first that is undefined, at this line
+-- the step of the meaning after this many is the first that is undefined, at this line
 abbrev pub UndefinedCause : (steps line : ℕ) → Command → Assembled → TextUnit → Type 0
 UndefinedCause steps line c code unit =
     RunsMeaning c.mode × (steps < c.steps) × HasMeant (code_meaning c code unit) steps × ((code_meaning c code unit (steps + 1)).status ≡ Bad)
@@ -67,11 +66,11 @@ UndefinedCause steps line c code unit =
 pub record Causes (words : List (List ℕ)) (texts : TextsChange) (out err : SinkChange) (done : Done) : Type 0 where
   -- Usage comes only for words that are no command
   pub usage : done.answer ≡ Usage → AreNoCommand words
-  -- and for such words comes only it, want of memory, or a write fault of a line
+  -- and for such words comes only it, out of memory, or a write fault of a line
   pub no_command : AreNoCommand words → (done.code ≡ None)
       × ((done.answer ≡ Usage) ⊎ ((done.answer ≡ OutOfMemory) ⊎ ((done.answer ≡ WriteFault) × Rose err.faults err.faults')))
   pub refused : (refusal : Refusal) → done.answer ≡ Refused refusal → (c : Command) × IsCommand words c × IsRefusedCall c texts.held refusal
-  -- a fault of the outside is told only where a count rose, and each that rose is told; a file is read only where the arguments fit
+  -- a fault of the outside is reported only where a count rose, and each that rose is reported; a file is read only where the arguments fit
   pub read_fault : done.answer ≡ ReadFault → Rose texts.faults texts.faults' × ((c : Command) × IsCommand words c × ReadsFile c.mode × ArgumentsFit c)
   pub write_fault : done.answer ≡ WriteFault → Rose out.faults out.faults' ⊎ Rose err.faults err.faults'
   pub read_told : texts.faults < texts.faults' → (done.answer ≡ ReadFault) ⊎ ((done.answer ≡ WriteFault) × Rose err.faults err.faults')
@@ -79,7 +78,7 @@ pub record Causes (words : List (List ℕ)) (texts : TextsChange) (out err : Sin
   pub sure_reads : texts.sure ≡ true → ((c : Command) → IsCommand words c → IsHeld texts.held c.file) → texts.faults' ≡ texts.faults
   pub out_told : out.faults < out.faults' → done.answer ≡ WriteFault
   pub err_told : err.faults < err.faults' → done.answer ≡ WriteFault
-  -- a listing is told only where it is asked for, and all of it was written, or where the text is one, and all its bytes were written
+  -- a listing is reported only where it is asked for, and all of it was written, or where the text is one, and all its bytes were written
   pub listed : done.answer ≡ Listed
       → HasCode words texts.held done.code (λ c code unit. (c.mode ≡ mode.List) × Took out (listing_of code))
       ⊎ HasBack words texts.held done.code done.steps out

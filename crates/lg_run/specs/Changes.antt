@@ -6,7 +6,7 @@ use Rattle.lg_io.specs.SinkChanges.{SinkChange}
 use Rattle.lg_run.specs.declared.answer.Answer.{Answer}
 use Rattle.lg_run.specs.declared.answer.Answer.TheVariants.{ReadFault, WriteFault}
 
--- the texts that are told, the count of faults before and after, and whether the source was sure before
+-- the texts that are shown, the count of faults before and after, and whether the source was sure before
 pub record TextsChange : Type 0 where
   pub held : Option NamedTexts
   pub faults : ℕ

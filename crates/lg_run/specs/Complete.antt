@@ -28,11 +28,11 @@ pub record NoneRose (texts : TextsChange) (out err : SinkChange) : Type 0 where
   pub writes : ¬ Rose out.faults out.faults'
   pub errs : ¬ Rose err.faults err.faults'
 
--- an answer, or want of memory
+-- an answer, or out of memory
 abbrev pub Comes : Answer → Answer → Type 0
 Comes a wanted = (a ≡ wanted) ⊎ (a ≡ answer.OutOfMemory)
 
--- the answer says where the run of code, or the meaning, stands after the most steps
+-- the answer says where the run of code, or the meaning, is after the most steps
 abbrev pub AnswersRun : Progress → Answer → Type 0
 AnswersRun Goes a = Comes a answer.StepsOut
 AnswersRun (EndedWith status) a = Comes a (answer.Ended status)
@@ -43,8 +43,8 @@ AnswersMeaning Running a = Comes a answer.StepsOut
 AnswersMeaning (Ended status) a = Comes a (answer.Ended status)
 AnswersMeaning Bad a = (line : ℕ) × Comes a (answer.Undefined line)
 
--- where code runs: the answer says where the run stands; where the meaning ends in time, that end is the answer; and there is no fault
--- where the meaning is never undefined
+-- where code runs: the answer says where the run is; where the meaning ends in time, that end is the answer; and there is no fault where the meaning is never
+-- undefined
 pub record IsCompleteRun (c : Command) (code : Assembled) (unit : TextUnit) (a : Answer) : Type 0 where
   pub stands : AnswersRun (code_run c code unit c.steps).progress a
   pub ends : (m status : ℕ) → 64 * m ≤ c.steps → (code_meaning c code unit m).status ≡ Ended status → Comes a (answer.Ended status)
@@ -79,7 +79,7 @@ pub record AnswersCode (c : Command) (held : Option NamedTexts) (code : Option A
   pub long : most_args < length (args_of c.arguments) → Comes a (answer.Refused args_too_long)
   pub runs : (ran : Assembled) → code ≡ Some ran → (made : IsCodeOf c held ran) × IsCompleteIn c.mode c ran made.unit a
 
--- and where the texts are told
+-- and where the texts are shown
 pub record AnswersCommand (c : Command) (told : NamedTexts) (code : Option Assembled) (a : Answer) : Type 0 where
   -- where there is a cause of refusal, other than that code has no room, that is the answer
   pub refuses : (refusal : Refusal) → refusal ≢ code_full → IsRefusedCall c (Some told) refusal → Comes a (answer.Refused refusal)
@@ -89,7 +89,7 @@ pub record AnswersCommand (c : Command) (told : NamedTexts) (code : Option Assem
   -- a listing is read back
   pub reads : (bytes : List ℕ) → c.mode ≡ mode.Back → ArgumentsFit c → IsListingUnder c (Some told) bytes → Comes a answer.Listed
 
--- what is answered to words that ask for a command: it, or want of memory
+-- what is answered to words that ask for a command: it, or out of memory
 abbrev pub IsAnswered : List (List ℕ) → Option NamedTexts → Done → Type 0
 IsAnswered words held done =
     (done.answer ≡ answer.OutOfMemory) ⊎ ((c : Command) × IsCommand words c × AnswersCode c held done.code done.answer
@@ -100,7 +100,7 @@ Completeness =
     (words : List (List ℕ)) (texts : TextsChange) (out err : SinkChange) (done : Done)
     → Says words texts out err done → NoneRose texts out err → Takes words → IsAnswered words texts.held done
 
--- a source that can be trusted before the call: it is sure, its count has not come to its end, and it holds the file that the words ask for
+-- a source that can be trusted before the call: it is sure, its count has not reached its end, and it holds the file that the words ask for
 pub record IsTrusted (words : List (List ℕ)) (texts : TextsChange) : Type 0 where
   pub sure : texts.sure ≡ true
   pub room : texts.faults < 2 ^ 64 - 1

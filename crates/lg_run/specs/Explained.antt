@@ -1,4 +1,4 @@
--- What explains an answer: the lines that stand behind it in the mode `explain`.
+-- What explains an answer: the lines that are after it in the mode `explain`.
 use Rattle.std.specs.Prelude.{◌≡◌, ℕ, ◌+◌, Bool, true, false, ◌&&◌, if◌then◌else◌, List, [], Option, Some, None}
 use Rattle.lg_asm.specs.Assembled.{Assembled}
 use Rattle.lg_base.specs.Runs.{Bad}
@@ -82,7 +82,7 @@ pub record RefusalIsExplained (c : Command) (read : List ℕ) (refusal : Refusal
   pub refused : IsRefusedRead c read refusal
   pub are : lines ≡ refusal_lines c.file read (word_told read refusal.kind) refusal
 
--- the first step of the meaning that is undefined is the one behind so many, at this line
+-- the first step of the meaning that is undefined is the one after this many, at this line
 pub record IsUndefinedAt (c : Command) (code : Assembled) (unit : TextUnit) (steps line : ℕ) : Type 0 where
   pub goes : HasMeant (code_meaning c code unit) steps
   pub bad : (code_meaning c code unit (steps + 1)).status ≡ Bad
@@ -105,7 +105,7 @@ IsExplainedBy c held read code steps (Refused refusal) lines = RefusalIsExplaine
 IsExplainedBy c held read code steps (Undefined line) lines = StepIsExplained c held read code steps line lines
 IsExplainedBy c held read code steps answer lines = ⊥
 
--- the lines speak of what stands under the name of the file
+-- the lines speak of what is under the name of the file
 pub record IsExplained (c : Command) (held : Option NamedTexts) (code : Option Assembled) (steps : ℕ) (answer : Answer) (lines : List ℕ) : Type 0 where
   pub read : List ℕ
   pub under : IsTextUnder held c.file read

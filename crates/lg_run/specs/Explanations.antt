@@ -36,7 +36,7 @@ is_undefined StepsOut = false
 is_undefined (Fault kind pc) = false
 is_undefined OutOfMemory = false
 
--- why a step is undefined is told with that answer, in the mode `explain`
+-- why a step is undefined is reported with that answer, in the mode `explain`
 abbrev pub tells_stuck : Mode → Answer → Bool
 tells_stuck m answer = is_explain m && is_undefined answer
 
@@ -47,12 +47,12 @@ IsStepUndefined (runs_end.Undefined line) l shape addresses s = step l shape add
 IsStepUndefined runs_end.StepsOut l shape addresses s = ⊤
 IsStepUndefined runs_end.WriteFault l shape addresses s = ⊤
 
--- a step from a state is undefined, and that is told, or nothing is told
+-- a step from a state is undefined, and that is reported, or nothing is reported
 abbrev pub StuckWhere : Bool → LabelledNodes → TextShape → List ℕ → State → Option StuckAt → Type 0
 StuckWhere false l shape addresses s stuck = stuck ≡ None
 StuckWhere true l shape addresses s stuck = (at : StuckAt) × (stuck ≡ Some at) × IsStuck l shape addresses s at
 
--- the same of the meaning of code, behind so many steps
+-- the same of the meaning of code, after this many steps
 abbrev pub StuckFor : Bool → Command → Assembled → TextUnit → (steps : ℕ) → Option StuckAt → Type 0
 StuckFor b c code unit steps stuck = StuckWhere b unit.nodes (shape_of_unit unit) code.labels (code_meaning c code unit steps).state stuck
 
@@ -105,7 +105,7 @@ read_explained file (Some read) word stuck answer = answer_explained file read.i
 abbrev pub explained_of : Mode → (file : List ℕ) → Worked → List ℕ
 explained_of m file w = if is_explain m then read_explained file w.read w.word w.stuck w.done.answer else []
 
--- what is said of them: of what was done for a command, and with what stands under the name of the file
+-- what is said of them: of what was done for a command, and with what is under the name of the file
 abbrev pub WorkExplains : Command → Option NamedTexts → Worked → Type 0
 WorkExplains c held w = ExplainedIn (explains c.mode w.done.answer) c held w.done.code w.done.steps w.done.answer (explained_of c.mode c.file w)
 

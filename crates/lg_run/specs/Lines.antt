@@ -51,6 +51,6 @@ abbrev pub code_stats : Option Assembled → (steps : ℕ) → List ℕ
 code_stats None steps = []
 code_stats (Some code) steps = stats_line (length code.bytes) (length code.nodes.nodes) code.spills steps
 
--- they are told where that is asked for, there is code, and out did not fail
+-- they are reported where that is asked for, there is code, and out did not fail
 abbrev pub stats_of : Bool → Option Assembled → (steps : ℕ) → Answer → List ℕ
 stats_of told code steps answer = if told && not (is_write_fault answer) then code_stats code steps else []

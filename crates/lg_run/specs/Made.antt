@@ -6,7 +6,7 @@ use Rattle.lg_io.specs.declared.digits.Radix.TheVariants.{Decimal}
 
 -- ---- draws
 
--- the state behind a draw
+-- the state after a draw
 unfoldable pub next : ℕ → ℕ
 next x = (x * 6364136223846793005 + 1442695040888963407) % 2 ^ 64
 
@@ -14,7 +14,7 @@ next x = (x * 6364136223846793005 + 1442695040888963407) % 2 ^ 64
 abbrev pub drawn : ℕ → ℕ
 drawn x = x / 2 ^ 33
 
--- a text, and the state behind it
+-- a text, and the state after it
 abbrev pub Drawn : Type 0
 Drawn = List ℕ × ℕ
 
@@ -44,7 +44,7 @@ piece_by which x =
 unfoldable pub one_piece : ℕ → Drawn
 one_piece x = piece_by (drawn (next x) % 8) (next x)
 
--- so many
+-- this many
 unfoldable pub pieces : ℕ → ℕ → Drawn
 pieces zero x = ([], x)
 pieces (suc k) x = ((one_piece x).0 ++ (pieces k (one_piece x).1).0, (pieces k (one_piece x).1).1)
@@ -62,7 +62,7 @@ end_of k = row (codes "subi %v2 %v2 1\nbgti l" ∷ digits_in Decimal k ∷ codes
 unfoldable pub one_function : (function : ℕ) → ℕ → Drawn
 one_function k x = (start_of k (drawn (next x)) ++ ((pieces 64 (next x)).0 ++ end_of k), (pieces 64 (next x)).1)
 
--- so many functions, from a number on
+-- this many functions, from a number on
 unfoldable pub functions : (count function : ℕ) → ℕ → List ℕ
 functions zero k x = []
 functions (suc n) k x = (one_function k x).0 ++ functions n (k + 1) (one_function k x).1

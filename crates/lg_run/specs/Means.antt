@@ -19,10 +19,10 @@ answer_of (runs_end.Undefined line) = answer.Undefined line
 answer_of runs_end.StepsOut = answer.StepsOut
 answer_of runs_end.WriteFault = answer.WriteFault
 
--- the meaning of nodes from where the machine stands
+-- the meaning of nodes from where the machine is
 abbrev pub meaning_from : LabelledNodes → TextShape → PortableState → ℕ → means.Run
 meaning_from nodes shape p = means.mean_from nodes shape p.labels.addresses (state_of p.machine)
 
--- what a run of at most so many steps says of it
+-- what a run of at most this many steps says of it
 abbrev pub MeantFrom : LabelledNodes → TextShape → PortableState → (most : ℕ) → SinkChange → Ran → Type 0
 MeantFrom nodes shape p most out ran = MeanSays nodes (meaning_from nodes shape p) most ran.steps out ran.answer

@@ -1,4 +1,4 @@
--- What a profile begins with, and what it comes to.
+-- What a profile begins with, and its outcome.
 use Rattle.std.specs.Prelude.{◌≡◌, ℕ, ◌<◌, Bool, true, false, List, Option, Some, None, length}
 use Rattle.lg_asm.specs.Assembled.{Assembled}
 use Rattle.lg_command.specs.Commands.{Command}
@@ -25,7 +25,7 @@ use Rattle.lg_run.specs.declared.profile.Profiled.{Profiled}
 use Rattle.lg_run.specs.declared.profile.Start.{Start}
 use Rattle.lg_run.specs.declared.profile.Worked.{Worked}
 
--- the portable machine stands before its first step, and the numbers of the text's lines are 0
+-- the portable machine is before its first step, and the numbers of the text's lines are 0
 pub record StandsAtStart (unit : TextUnit) (shape : TextShape) (s : Start) : Type 0 where
   pub below : AreBelow unit.nodes.nodes (length s.tally)
   pub some : 0 < length s.tally
@@ -36,7 +36,7 @@ pub record StandsAtStart (unit : TextUnit) (shape : TextShape) (s : Start) : Typ
   pub running : s.machine.over ≡ None
   pub steps : s.machine.steps ≡ 0
 
--- both machines stand at the start of code of a text, and the table has the lines of the code
+-- both machines are at the start of code of a text, and the table has the lines of the code
 pub record IsStartOf (unit : TextUnit) (shape : TextShape) (code : Assembled) (args : List ℕ) (s : Start) : Type 0 where
   pub stands : StandsAtStart unit shape s
   pub cpu : shown s.cpu ≡ shown_at_start code.target code.bytes unit.image args trash_word
@@ -44,7 +44,7 @@ pub record IsStartOf (unit : TextUnit) (shape : TextShape) (code : Assembled) (a
   pub state : state_of s.machine.machine ≡ start_state unit.image args
   pub addresses : s.machine.labels.addresses ≡ code.labels
 
--- the numbers of the lines after such a run, and the meaning's from its start; none where the run did not come to its end
+-- the numbers of the lines after such a run, and the meaning's from its start; none where the run did not end
 pub record AreTallied (unit : TextUnit) (shape : TextShape) (s : Start) (most steps : ℕ) (tally : List Counts) : Type 0 where
   pub kept : length tally ≡ length s.tally
   pub ran : (line : ℕ) → ran_at tally line ≡ count unit.nodes (mean_from unit.nodes shape s.machine.labels.addresses (state_of s.machine.machine)) line most
@@ -54,13 +54,13 @@ abbrev pub TalliesFor : Bool → TextUnit → TextShape → Start → (most step
 TalliesFor false unit shape s most steps tally = tally ≡ None
 TalliesFor true unit shape s most steps tally = (t : List Counts) × (tally ≡ Some t) × AreTallied unit shape s most steps t
 
--- the table, and where a step of the meaning is undefined, that are told of code that ran
+-- the table, and where a step of the meaning is undefined, that are reported of code that ran
 abbrev pub RanTells : Command → Assembled → TextUnit → Profiled → Type 0
 RanTells c code unit p =
     TableFor (tells_table c.mode p.ran.answer) c code unit p.ran.steps (table_of p.tally)
     × StuckFor (tells_stuck c.mode p.ran.answer) c code unit p.ran.steps p.stuck
 
--- and of what was done with a command's text, with any text that has a unit, and with what stands under the name of the file
+-- and of what was done with a command's text, with any text that has a unit, and with what is under the name of the file
 abbrev pub WorkTells : Command → Option NamedTexts → Worked → Type 0
 WorkTells c held w =
     TableIn (tells_table c.mode w.done.answer) c held w.done.code w.done.steps (table_of w.tally)

@@ -23,19 +23,19 @@ use Rattle.lg_run.specs.declared.answer.Answer.TheVariants.{Ended, Listed, Undef
 abbrev pub meant_at : Command → Assembled → TextUnit → (line : ℕ) → ℕ
 meant_at c code unit line = count unit.nodes (code_meaning c code unit) line c.steps
 
--- and how many of the first so many steps of the processor: those in the bytes of a final node of this line, and the host steps behind them
+-- and how many of the first n steps of the processor: those in the bytes of a final node of this line, and the host steps after them
 abbrev pub spent_at : Command → Assembled → TextUnit → (steps line : ℕ) → ℕ
 spent_at c code unit steps line = spent (code_line code.nodes.nodes code.places) (code_run c code unit) line steps
 
 -- ---- the table
--- it has the lines of which one number is not 0, rising: all lines of the text's nodes are below a number, and it has those below it
+-- it has the lines one of whose numbers is not 0, rising: all lines of the text's nodes are below a number, and it has those below it
 pub record IsProfileOf (c : Command) (code : Assembled) (unit : TextUnit) (steps : ℕ) (lines : List ℕ) : Type 0 where
   pub top : ℕ
   pub some : 0 < top
   pub below : AreBelow unit.nodes.nodes top
   pub is : lines ≡ table_below (meant_at c code unit) (spent_at c code unit steps) top
 
--- the answers that a run comes to, but a write fault
+-- the answers that a run results in, but a write fault
 abbrev pub is_run_end : Answer → Bool
 is_run_end (Ended status) = true
 is_run_end Listed = false
@@ -57,11 +57,11 @@ is_profile mode.Back = false
 is_profile mode.Profile = true
 is_profile mode.Explain = false
 
--- a table is told with these answers, in the mode `profile`
+-- a table is reported with these answers, in the mode `profile`
 abbrev pub tells_table : Mode → Answer → Bool
 tells_table m answer = is_profile m && is_run_end answer
 
--- it is that of code and of the unit from which the code was made, where it is told, and empty elsewhere
+-- it is that of code and of the unit from which the code was made, where it is reported, and empty elsewhere
 abbrev pub TableFor : Bool → Command → Assembled → TextUnit → (steps : ℕ) → List ℕ → Type 0
 TableFor false c code unit steps lines = lines ≡ []
 TableFor true c code unit steps lines = IsProfileOf c code unit steps lines
@@ -80,7 +80,7 @@ abbrev pub TableSays : Option Command → Option NamedTexts → Option Assembled
 TableSays None held code steps answer lines = lines ≡ []
 TableSays (Some c) held code steps answer lines = TableIn (tells_table c.mode answer) c held code steps lines
 
--- the lines that tell numbers, where there are some
+-- the lines that report numbers, where there are some
 abbrev pub table_of : Option (List Counts) → List ℕ
 table_of None = []
 table_of (Some tally) = table tally

@@ -26,7 +26,7 @@ most_text = 16777216
 abbrev pub code_full : Refusal
 code_full = record { kind = CodeFull; line = 0 }
 
--- code of so many nodes may have more bytes than the size
+-- code of n nodes may have more bytes than the size
 abbrev pub MayBeFull : (nodes size : ℕ) → Type 0
 MayBeFull nodes size = size < 256 * nodes + 256
 
@@ -74,16 +74,16 @@ IsRefusedListing read refusal =
     ((refusal ≡ text_too_long) × (most_text < length read))
     ⊎ ((length read ≤ most_text) × (refusal.kind ≡ BadListing) × IsBadListing read refusal.line)
 
--- the text is the one under this name; where the texts are not told it may be any
+-- the text is the one under this name; where the texts are not shown it may be any
 abbrev pub IsTextUnder : Option NamedTexts → List ℕ → List ℕ → Type 0
 IsTextUnder None name text = ⊤
 IsTextUnder (Some texts) name text = text_under texts name ≡ Some text
 
--- the text is the expansion of what stands under a name
+-- the text is the expansion of what is under a name
 abbrev pub IsExpandedUnder : Option NamedTexts → List ℕ → List ℕ → Type 0
 IsExpandedUnder held name text = (read : List ℕ) × IsTextUnder held name read × Expands read text
 
--- the text of which a command wants code: the generator's for its seed, or the expansion of what stands under the name of its file; none in the mode `back`
+-- the text that a command wants code of: the generator's for its seed, or the expansion of what is under the name of its file; none in the mode `back`
 abbrev pub IsTextIn : Mode → Command → Option NamedTexts → List ℕ → Type 0
 IsTextIn mode.Run c held text = IsExpandedUnder held c.file text
 IsTextIn mode.List c held text = IsExpandedUnder held c.file text
@@ -97,7 +97,7 @@ IsTextIn mode.Explain c held text = IsExpandedUnder held c.file text
 abbrev pub ArgumentsFit : Command → Type 0
 ArgumentsFit c = length (args_of c.arguments) ≤ most_args
 
--- a refusal that speaks of what stands under the name of the file
+-- a refusal that speaks of what is under the name of the file
 abbrev pub IsRefusedUnder : Command → Option NamedTexts → Refusal → Type 0
 IsRefusedUnder c held refusal = (read : List ℕ) × IsTextUnder held c.file read × IsRefusedRead c read refusal
 

@@ -29,7 +29,7 @@ use Rattle.lg_run.specs.declared.answer.Answer.{Answer}
 use Rattle.lg_run.specs.declared.answer.Answer.TheVariants.{Ended, Listed, Undefined, Refused, Usage, ReadFault, WriteFault, StepsOut, Fault, OutOfMemory}
 use Rattle.lg_run.specs.declared.answer.Done.{Done}
 
--- what registers hold at first, and behind a call of a host function
+-- what registers hold at first, and after a call of a host function
 abbrev pub trash_word : ℕ
 trash_word = 0x5A5A5A5A5A5A5A5A
 
@@ -148,7 +148,7 @@ pub record Ran (c : Command) (held : Option NamedTexts) (code : Option Assembled
 
 -- ---- listings that are read back
 
--- what stands under the name of the file is a listing of these bytes
+-- what is under the name of the file is a listing of these bytes
 pub record IsListingUnder (c : Command) (held : Option NamedTexts) (bytes : List ℕ) : Type 0 where
   pub text : List ℕ
   pub given : IsTextUnder held c.file text
@@ -208,7 +208,7 @@ pub record WorkSays (c : Command) (texts : TextsChange) (out : SinkChange) (code
   pub faults : TellsFaults texts out answer
   pub sure : IsReadSurely texts c.file
 
--- words that ask for none are no command, or memory was wanted
+-- words that ask for none are no command, or memory ran out
 abbrev pub NoCommandSays : List (List ℕ) → Answer → Type 0
 NoCommandSays words Usage = AreNoCommand words
 NoCommandSays words OutOfMemory = Unit {0}
@@ -233,7 +233,7 @@ abbrev pub lines_of : Option Command → Option Assembled → (steps : ℕ) → 
 lines_of None code steps answer = line_of [] steps answer
 lines_of (Some c) code steps answer = stats_of c.stats code steps answer ++ line_of (name_in c.mode c) steps answer
 
--- the lines of the inner answer stand on err and that is the answer, or a part of them stands there and the answer is a write fault
+-- the lines of the inner answer are on err and that is the answer, or a part of them is there and the answer is a write fault
 abbrev pub ReportSays : (lines : List ℕ) → SinkChange → (inner outer : Answer) → Type 0
 ReportSays lines err inner outer =
     ((outer ≡ inner) × (err.faults' ≡ err.faults) × Took err lines) ⊎ ((outer ≡ WriteFault) × Rose err.faults err.faults' × TookPart err lines)

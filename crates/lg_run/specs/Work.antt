@@ -14,7 +14,7 @@ use Rattle.lg_run.specs.declared.answer.Answer.TheVariants.{OutOfMemory}
 use Rattle.lg_run.specs.declared.answer.Done.{Done}
 use Rattle.lg_run.specs.declared.run.Ran.{Ran}
 
--- memory was wanted before the first step, or code, or its meaning, ran so
+-- memory ran out before the first step, or code, or its meaning, ran so
 abbrev pub StartSays : Mode → Command → Assembled → TextUnit → SinkChange → (steps : ℕ) → Answer → Type 0
 StartSays m c code unit out steps OutOfMemory = IsStill steps out
 StartSays m c code unit out steps answer = ModeSays m c code unit steps out answer
@@ -36,10 +36,10 @@ TextDone c text out done = (held : Option NamedTexts) → IsTextIn c.mode c held
 abbrev pub UnitDone : Command → TextUnit → SinkChange → Done → Type 0
 UnitDone c unit out done = (text : List ℕ) → IsUnitOf text unit → TextDone c text out done
 
--- this was done with what stands under the name of the file
+-- this was done with what is under the name of the file
 abbrev pub ReadDone : Command → List ℕ → SinkChange → Done → Type 0
 ReadDone c read out done = (held : Option NamedTexts) → IsTextUnder held c.file read → DoneSays c held out done
 
--- no fault of texts is told
+-- no fault of texts is reported
 abbrev pub TellsNoRead : Answer → Type 0
 TellsNoRead answer = (t : TextsChange) → t.faults' ≡ t.faults → TellsReads answer t

@@ -6,7 +6,7 @@ ghost use Rattle.lg_run.specs.Statuses.{status_of_answer};
 use lg_asm::Code;
 use lg_base::{FaultKind, Refusal};
 
-/// What the top call comes to.
+/// The outcome of the top call.
 #[derive(Clone, Copy, Debug, PartialEq, Eq)]
 pub enum Answer {
     /// The run ended with a status.
@@ -51,7 +51,7 @@ pub struct Done {
     pub steps: u64,
 }
 
-/// The status that the program ends with: the run's own where it ended, 0 for a listing, and from 120 on for
+/// Returns the status that the program ends with: the run's own where it ended, 0 for a listing, and from 120 on for
 /// every other answer.
 pub fn status(answer: &Answer) -> u8
     ensures { result ≡ status_of_answer answer.now }

@@ -47,7 +47,7 @@ fn do_listing<O: Sink>(alloc: Global, command: &Command<'_>, read: &[u8], out: &
     }
 }
 
-/// Reads what stands under the name of a command's file as a listing, and writes the bytes that it is of. Nothing is assembled, and nothing runs.
+/// Reads what is under the name of a command's file as a listing, and writes the bytes that it is of. Nothing is assembled, and nothing runs.
 pub fn do_back<T: Texts, O: Sink>(
     alloc: Global,
     command: &Command<'_>,

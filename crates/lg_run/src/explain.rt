@@ -113,8 +113,8 @@ pub fn run_explain<O: Sink>(
 
 // ---- the word
 
-/// The word that an answer blames in what was read, which has at most 16,777,216 bytes, where answers are explained in the mode. Memory is wanted for it only
-/// where the answer is a refusal.
+/// Returns the word that an answer blames in what was read, which has at most 16,777,216 bytes, where answers are explained in the mode. Memory is requested
+/// for it only where the answer is a refusal.
 pub fn blamed_word_of(
     alloc: Global,
     mode: Mode,
@@ -136,7 +136,7 @@ pub fn blamed_word_of(
 
 // ---- the lines
 
-// Whether a kind of refusal names a line.
+// Returns whether a kind of refusal names a line.
 fn names_line(kind: RefusalKind) -> bool
     ensures { result ≡ names_line kind }
 {
@@ -214,7 +214,7 @@ fn write_read<E: Sink>(
     }
 }
 
-// Whether answers are explained in a mode.
+// Returns whether answers are explained in a mode.
 fn is_explain(mode: Mode) -> bool
     ensures { result ≡ is_explain mode }
 {

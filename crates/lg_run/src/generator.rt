@@ -11,7 +11,7 @@ use std::alloc::Global;
 // How many functions there are beside `main`.
 const FUNCTIONS: u64 = 18;
 
-// The pieces of a function: the state behind them.
+// The pieces of a function: the state after them.
 fn push_pieces(text: &mut CodeText, from: u64) -> Result<u64, OutOfMemory>
     ensures { IfOk result (λ s. (text.new ≡ text.old ++ (pieces 64 from).0) × (s ≡ (pieces 64 from).1)) }
 {
@@ -22,7 +22,7 @@ fn push_pieces(text: &mut CodeText, from: u64) -> Result<u64, OutOfMemory>
     Ok(state)
 }
 
-// A function: the state behind it.
+// A function: the state after it.
 #[tactic(auto, unfolding(crate::specs::Made::one_function))]
 fn push_function(text: &mut CodeText, function: u64, state: u64) -> Result<u64, OutOfMemory>
     ensures { IfOk result (λ s. (text.new ≡ text.old ++ (one_function function state).0) × (s ≡ (one_function function state).1)) }
@@ -55,8 +55,8 @@ fn push_calls(text: &mut CodeText) -> Result<(), OutOfMemory>
     Ok(())
 }
 
-/// The generator's text for a seed: eighteen functions, each of a loop of 64 pieces that are drawn, and `main`, which calls them ten times over
-/// and prints the word that is left. Its steps are few, and its output is one line.
+/// Returns the generator's text for a seed: eighteen functions, each of a loop of 64 pieces that are drawn, and `main`, which calls them ten times over and
+/// prints the word that is left. Its steps are few, and its output is one line.
 #[tactic(auto, unfolding(crate::specs::Made::made))]
 pub fn made(alloc: Global, seed: u64) -> Result<CodeText, OutOfMemory>
     ensures { IfOk result (λ t. t ≡ made seed) }

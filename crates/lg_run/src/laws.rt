@@ -7,8 +7,8 @@ ghost use Rattle.lg_run.specs.Refused.{ListingsAreRefusedOnce, TextsAreRefusedOn
 use lg_prof::laws::{counts_add_up, spent_steps_add_up};
 
 /// Where clap takes the words, no count of faults rose and memory was had, the answer says where the run of the code that is there, or
-/// its meaning, stands after the most steps: it is the meaning's end where that comes in time, and no fault where the meaning is never
-/// undefined. Where the texts are told, there is code of every text that is accepted and has room, and a refusal is the answer where
+/// its meaning, is after the most steps: it is the meaning's end where that comes in time, and no fault where the meaning is never undefined. Where the texts
+/// are shown, there is code of every text that is accepted and has room, and a refusal is the answer where
 /// there is a cause of one.
 pub fn completeness()
     ensures { Completeness }

@@ -153,7 +153,7 @@ fn write_numbers<E: Sink>(
     )
 }
 
-// Writes the statistics of code and of a run of so many steps.
+// Writes the statistics of code and of a run of this many steps.
 fn write_code_stats<E: Sink>(code: &Code, steps: u64, err: &mut E) -> Result<(), SinkFault>
     ensures { WroteTo (on_sink E.taken E.faults err.old err.new) result (code_stats (Some code.now) steps) }
 {
@@ -166,7 +166,7 @@ fn write_code_stats<E: Sink>(code: &Code, steps: u64, err: &mut E) -> Result<(),
     )
 }
 
-// Whether an answer is a write fault.
+// Returns whether an answer is a write fault.
 fn is_write_fault(answer: Answer) -> bool
     ensures { result ≡ is_write_fault answer }
 {

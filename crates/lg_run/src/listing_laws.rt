@@ -26,7 +26,7 @@ pub fn code_listings_read_back(code: &Code)
     listing_reads_back(target, code.bytes(), nodes, code.places(), code.labels());
 }
 
-/// The call reads the listing of code that was assembled back: its target and its bytes, or memory is wanted.
+/// The call reads the listing of code that was assembled back: its target and its bytes, or memory runs out.
 pub fn code_listings_are_read_back(alloc: Global, text: &[u8], code: &Code) -> Result<Back, Stop>
     requires text { text.now ≡ listing code.now.target code.now.bytes code.now.places code.now.nodes }
     requires small { length text.now ≤ 4294967294 }
@@ -36,7 +36,7 @@ pub fn code_listings_are_read_back(alloc: Global, text: &[u8], code: &Code) -> R
     read_back(alloc, text)
 }
 
-/// Each line of a listing ends with its one line feed: the first, and whatever stands behind it.
+/// Each line of a listing ends with its one line feed: the first, and whatever is after it.
 pub fn lines_are_lines()
     ensures first { (t : AnyTarget) (count : ℕ) → IsLine (first_line t count) }
     ensures other { (t : AnyTarget) (at : ℕ) (e : Entry) → IsEntry t e → IsLine (line_of at e) }

@@ -7,7 +7,7 @@ use crate::code_text::CodeText;
 use lg_base::OutOfMemory;
 use lg_io::{Digits, Radix};
 
-/// The state behind a draw.
+/// Returns the state after a draw.
 pub fn next(state: u64) -> u64
     ensures { result ≡ next state }
 {
@@ -16,7 +16,7 @@ pub fn next(state: u64) -> u64
         .wrapping_add(1_442_695_040_888_963_407)
 }
 
-/// What a draw gives that leaves this state.
+/// Returns what a draw gives that leaves this state.
 pub fn drawn(state: u64) -> u64
     ensures { result ≡ drawn state }
 {
@@ -67,7 +67,7 @@ pub fn push_call(text: &mut CodeText, function: u64) -> Result<(), OutOfMemory>
     Ok(())
 }
 
-// A shift by a number that is drawn: the state behind it.
+// A shift by a number that is drawn: the state after it.
 fn push_turned(text: &mut CodeText, state: u64) -> Result<u64, OutOfMemory>
     ensures { IfOk result (λ s. (text.new ≡ text.old ++ (turned state).0) × (s ≡ (turned state).1)) }
 {
@@ -77,7 +77,7 @@ fn push_turned(text: &mut CodeText, state: u64) -> Result<u64, OutOfMemory>
     Ok(state)
 }
 
-// A sum with a number that is drawn: the state behind it.
+// A sum with a number that is drawn: the state after it.
 fn push_sum(text: &mut CodeText, state: u64) -> Result<u64, OutOfMemory>
     ensures { IfOk result (λ s. (text.new ≡ text.old ++ (sum_of state).0) × (s ≡ (sum_of state).1)) }
 {
@@ -95,7 +95,7 @@ fn push_line(text: &mut CodeText, line: &[u8], state: u64) -> Result<u64, OutOfM
     Ok(state)
 }
 
-// The line of a piece: the state behind it.
+// The line of a piece: the state after it.
 fn push_by(text: &mut CodeText, which: u64, state: u64) -> Result<u64, OutOfMemory>
     ensures { IfOk result (λ s. (text.new ≡ text.old ++ (piece_by which state).0) × (s ≡ (piece_by which state).1)) }
 {
@@ -115,7 +115,7 @@ fn push_by(text: &mut CodeText, which: u64, state: u64) -> Result<u64, OutOfMemo
     }
 }
 
-/// A piece, which is drawn: the state behind it.
+/// A piece, which is drawn: the state after it.
 #[tactic(auto, unfolding(crate::specs::Made::one_piece))]
 pub fn push_piece(text: &mut CodeText, state: u64) -> Result<u64, OutOfMemory>
     ensures { IfOk result (λ s. (text.new ≡ text.old ++ (one_piece state).0) × (s ≡ (one_piece state).1)) }

@@ -14,7 +14,7 @@ use lg_io::Sink;
 use lg_mean::{Portable, RunEnd};
 use lg_node::{Shape, Unit};
 
-/// The answer of a run of the portable machine.
+/// Returns the answer of a run of the portable machine.
 pub fn answer_of(end: RunEnd) -> Answer
     ensures { result ≡ answer_of end }
 {

@@ -37,7 +37,7 @@ use lg_prof::laws::tables_have_the_lines;
 use lg_prof::{LineTable, Tally, count_meaning, run_counted};
 use std::alloc::Global;
 
-/// What ran, and what is told of it besides.
+/// What ran, and what is said of it besides.
 #[derive(Drop)]
 pub struct Profiled {
     /// What the run came to.
@@ -48,7 +48,7 @@ pub struct Profiled {
     pub stuck: Option<StuckAt>,
 }
 
-/// What was done, and what is told of it besides.
+/// What was done, and what is said of it besides.
 #[derive(Drop)]
 pub struct Worked {
     /// What was done.
@@ -63,7 +63,7 @@ pub struct Worked {
     pub word: Option<Shown>,
 }
 
-/// What ran, and nothing besides.
+/// Returns what ran, and nothing besides.
 pub fn untold_run(ran: Ran) -> Profiled
     ensures { (result.ran ≡ ran) × (result.tally ≡ None) × (result.stuck ≡ None) }
 {
@@ -74,7 +74,7 @@ pub fn untold_run(ran: Ran) -> Profiled
     }
 }
 
-/// What was done, and nothing besides.
+/// Returns what was done, and nothing besides.
 pub fn untold(done: Done) -> Worked
     ensures { (result.done ≡ done) × (result.tally ≡ None) × (result.stuck ≡ None) × (result.read ≡ None) × (result.word ≡ None) }
 {
@@ -97,7 +97,7 @@ pub fn write_table<E: Sink>(tally: &Option<Tally>, err: &mut E) -> Result<(), Si
     }
 }
 
-// Whether an answer is one that a run comes to, but a write fault.
+// Returns whether an answer is one that a run results in, but a write fault.
 fn is_run_end(answer: Answer) -> bool
     ensures { result ≡ is_run_end answer }
 {
@@ -107,7 +107,7 @@ fn is_run_end(answer: Answer) -> bool
     )
 }
 
-// The lines of the code of a text.
+// Returns the lines of the code of a text.
 fn line_table(alloc: Global, code: &Code) -> Result<LineTable, OutOfMemory>
     ensures { IfOk result (λ l. AreLines code.now.nodes.nodes code.now.places l) }
 {
@@ -200,7 +200,7 @@ fn begin(
     })
 }
 
-// The numbers of the lines, where the run came to its end.
+// Returns the numbers of the lines, where the run came to its end.
 fn told_tally(answer: Answer, tally: Tally) -> Option<Tally>
     ensures { result ≡ (if is_run_end answer then Some tally else None) }
 {
@@ -237,7 +237,7 @@ fn run_both<O: Sink>(start: &mut Start, most: u64, text: &Accepted, out: &mut O)
     ran
 }
 
-// Runs them, and tells the numbers of the lines.
+// Runs them, and reports the numbers of the lines.
 fn run_start<O: Sink>(start: Start, most: u64, text: &Accepted, out: &mut O) -> Profiled
     requires going { (shown start.cpu).answer ≡ CpuStep.Went }
     requires first { (shown start.cpu).steps ≡ 0 }
@@ -259,7 +259,7 @@ fn run_start<O: Sink>(start: Start, most: u64, text: &Accepted, out: &mut O) -> 
     }
 }
 
-/// Runs code as `run` does, and tells how many of its steps, and of those of its meaning over the addresses of the code's labels, belong to each line.
+/// Runs code as `run` does, and returns how many of its steps, and of those of its meaning over the addresses of the code's labels, belong to each line.
 pub fn run_profile<O: Sink>(
     alloc: Global,
     command: &Command<'_>,

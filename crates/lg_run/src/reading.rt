@@ -21,7 +21,7 @@ pub struct Accepted {
     pub shape: Shape,
 }
 
-/// The unit of a text of at most 16,777,216 bytes, where it is accepted, or why the text is refused: its first fault, or else the unit's.
+/// Returns the unit of a text of at most 16,777,216 bytes, where it is accepted, or why the text is refused: its first fault, or else the unit's.
 pub fn read_unit(alloc: Global, text: &[u8]) -> Result<Accepted, Stop>
     requires { length text.now ≤ most_text }
     ensures unit { IfOk result (λ a. unit_of text.now ≡ Ok a.unit) }

@@ -23,7 +23,7 @@ use lg_command::{Command, Mode, WordsStop, read_words};
 use lg_io::{Sink, SinkFault, Texts};
 use std::alloc::Global;
 
-// The name of a command's text in the line of a refusal.
+// Returns the name of a command's text in the line of a refusal.
 fn name_in<'a>(command: &Command<'a>) -> &'a str
     ensures { result.now ≡ name_in command.now.mode (shown command.now) }
 {
@@ -60,7 +60,7 @@ fn write_answer<E: Sink>(command: &Command<'_>, done: &Done, err: &mut E) -> Res
     )
 }
 
-// Writes them, and behind them what explains the answer.
+// Writes them, and after them what explains the answer.
 fn write_told<E: Sink>(command: &Command<'_>, worked: &Worked, err: &mut E) -> Result<(), SinkFault>
     ensures { let lines = lines_of (Some (shown command.now)) worked.now.done.code worked.now.done.steps worked.now.done.answer in
         let explained = explained_of command.now.mode command.now.file.now worked.now in
@@ -88,8 +88,8 @@ fn write_report<E: Sink>(
     }
 }
 
-/// Writes the lines of what was done for a command, of which a run that ended without statistics and without a profile has none. Where that fails, the
-/// answer is a write fault.
+/// Writes the lines of what was done for a command, but a run that ended without statistics and without a profile writes none. Where that fails, the answer
+/// is a write fault.
 pub fn report<E: Sink>(command: &Command<'_>, worked: &Worked, err: &mut E) -> Answer
     ensures { let lines = lines_of (Some (shown command.now)) worked.now.done.code worked.now.done.steps worked.now.done.answer in
         let explained = explained_of command.now.mode command.now.file.now worked.now in
@@ -134,12 +134,12 @@ fn answer<T: Texts, O: Sink, E: Sink>(
 
 /// Reads the words of the command, and the text of its file, which it expands, or makes the generator's text (`--mode gen`); makes code of the text's unit
 /// for the command's target, and runs the code on a model of the processor, or, with `--mode mean`, the unit's portable meaning over the addresses of the
-/// code's labels, for at most so many steps as the command says; or, with `--mode list`, writes the code's listing; or, with `--mode back`, reads the file's
-/// text as a listing, and writes the bytes that it is of; or, with `--mode profile`, runs the code, and then the meaning, and tells how many steps of both
-/// belong to each line; or, with `--mode explain`, runs the meaning as with `mean`, and tells why the text is refused or a step is undefined. What the run
+/// code's labels, for at most as many steps as the command says; or, with `--mode list`, writes the code's listing; or, with `--mode back`, reads the file's
+/// text as a listing, and writes the bytes that it is of; or, with `--mode profile`, runs the code, and then the meaning, and returns how many steps of both
+/// belong to each line; or, with `--mode explain`, runs the meaning as with `mean`, and reports why the text is refused or a step is undefined. What the run
 /// writes, the listing and these bytes go to `out`, and the table of a profile, the statistics, the line of every answer but an end and what explains it to
-/// `err`. All memory is taken before the first step and before the first line. At most one text is selected, once, that of the command's
-/// file, and it is read from its start on, not again where a read found its end or failed, and at most 16,777,216 bytes and a piece of 65,536 of it.
+/// `err`. All memory is taken before the first step and before the first line. At most one text is selected, once, that of the command's file, and it is read
+/// from its start on, not again where a read found its end or failed, and at most 16,777,216 bytes and a piece of 65,536 of it.
 pub fn lightning<T: Texts, O: Sink, E: Sink>(
     alloc: Global,
     words: &Vec<String>,

@@ -44,10 +44,10 @@ use lg_mean::Portable;
 use lg_pre::expand;
 use std::alloc::Global;
 
-/// What registers hold at first, and behind a call of a host function.
+/// What registers hold at first, and after a call of a host function.
 pub const TRASH: u64 = 0x5A5A_5A5A_5A5A_5A5A;
 
-/// An answer with no code, and nothing run.
+/// Returns an answer with no code, and nothing run.
 pub fn without_code(answer: Answer) -> Done
     ensures { (result.answer ≡ answer) × (result.code ≡ None) × (result.steps ≡ 0) }
 {
@@ -58,7 +58,7 @@ pub fn without_code(answer: Answer) -> Done
     }
 }
 
-/// Nothing ran, since memory was wanted.
+/// Nothing ran, since memory ran out.
 pub fn not_run() -> Ran
     ensures { (result.answer ≡ Answer.OutOfMemory) × (result.steps ≡ 0) }
 {
@@ -68,7 +68,7 @@ pub fn not_run() -> Ran
     }
 }
 
-/// The answer of what stops a call before it runs.
+/// Returns the answer of what stops a call before it runs.
 pub fn stopped(stop: Stop) -> Answer
     ensures refused { (r : Refusal) → stop ≡ Stop.Refused r → result ≡ Answer.Refused r }
     ensures memory { stop ≡ Stop.OutOfMemory → result ≡ Answer.OutOfMemory }
@@ -81,14 +81,14 @@ pub fn stopped(stop: Stop) -> Answer
     }
 }
 
-/// A refusal at no line.
+/// Returns a refusal at no line.
 pub fn refusal(kind: RefusalKind) -> Refusal
     ensures { result ≡ record { kind = kind; line = 0 } }
 {
     Refusal { kind, line: 0 }
 }
 
-// The code of an accepted text.
+// Returns the code of an accepted text.
 fn code_of(alloc: Global, command: &Command<'_>, text: &Accepted) -> Result<Code, Stop>
     requires range { IsInRange command.now }
     requires whole { IsWhole text.now.unit }
@@ -358,7 +358,7 @@ fn see_file(command: &Command<'_>, args: &ArgImage)
     let (_, _) = (command, args);
 }
 
-// Reads what stands under the name of a command's file, and does what is asked for.
+// Reads what is under the name of a command's file, and does what is asked for.
 fn do_file<T: Texts, O: Sink>(
     alloc: Global,
     command: &Command<'_>,

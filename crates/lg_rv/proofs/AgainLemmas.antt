@@ -145,7 +145,7 @@ record LeadsUpper (op : UpperOp) : Type 0 where
   known : upper_by_row (upper_row op).fixed.opcode 0 0 ≡ Some op
   leads : (w funct3 : ℕ) → instr_at w (upper_row op).fixed.opcode funct3 ≡ upper_of w
 
--- whatever stands in the place of funct3
+-- whatever is in the place of funct3
 upper_leads : (op : UpperOp) → LeadsUpper op
 unfolding instr_at upper_by_row
 upper_leads Lui = record { fits = record { opcode = lit< tt; funct3 = lit< tt; high = lit< tt }; known = refl; leads = λ w f. refl }

@@ -14,7 +14,7 @@ pub record IsRow (opcode funct3 high : ℕ) (r : Row) : Type 0 where
 pub row_is : (opcode funct3 high : ℕ) (r : Row) → is_row opcode funct3 high r ≡ true → IsRow opcode funct3 high r
 row_is opcode funct3 high r e = record { same_opcode = grind (arith, nat_tests); same_funct3 = grind (arith, nat_tests); same_high = grind (arith, nat_tests) }
 
--- what a row fixes fits its fields, the highest of which has so many values
+-- what a row fixes fits its fields, the highest of which has this many values
 pub record Fits (r : Row) (size : ℕ) : Type 0 where
   pub opcode : r.fixed.opcode < 128
   pub funct3 : r.fixed.funct3 < 8

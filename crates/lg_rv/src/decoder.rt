@@ -13,7 +13,7 @@ use lg_base::Field;
 use lg_base::number::from_bits;
 use lg_base::word::word_in_front;
 
-/// The instruction that the bytes begin with, and its length, 4. `None` where the first 4 bytes are
+/// Returns the instruction that the bytes begin with, and its length, 4, or `None` if the first 4 bytes are
 /// no word of the table, or there are fewer than 4.
 #[inline(always)]
 pub fn decode(bytes: &[u8]) -> Option<(Instr, u32)>

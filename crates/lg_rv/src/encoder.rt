@@ -9,7 +9,7 @@ use crate::rows::{Fixed, JAL};
 use lg_base::number::to_bits;
 use lg_base::{Field, Piece};
 
-/// The bytes of an instruction whose numbers are in its row's ranges: 4 bytes, little-endian.
+/// Returns the bytes of an instruction whose numbers are in its row's ranges: 4 bytes, little-endian.
 pub fn encode(instr: &Instr) -> Piece
     requires { IsInstr instr.now }
     ensures { result ≡ spelling instr.now }

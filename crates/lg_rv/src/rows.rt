@@ -146,7 +146,7 @@ impl UpperOp {
         upper_rows!(fixed_of, self)
     }
 
-    /// The row's name.
+    /// Returns the row's name.
     pub(crate) fn name(self) -> &'static [u8]
         ensures same { result.now ≡ (upper_row self).name }
         ensures short { length result.now ≤ 16 }
@@ -154,7 +154,7 @@ impl UpperOp {
         upper_rows!(name_of, self)
     }
 
-    /// The row that fixes these.
+    /// Returns the row that fixes these.
     #[tactic(auto, unfolding(crate::specs::Reading::upper_by_row))]
     pub(crate) fn find(opcode: u32, funct3: u32, high: u32) -> Option<UpperOp>
         ensures { result ≡ upper_by_row opcode funct3 high }
@@ -172,7 +172,7 @@ impl BranchOp {
         branch_rows!(fixed_of, self)
     }
 
-    /// The row's name.
+    /// Returns the row's name.
     pub(crate) fn name(self) -> &'static [u8]
         ensures same { result.now ≡ (branch_row self).name }
         ensures short { length result.now ≤ 16 }
@@ -180,7 +180,7 @@ impl BranchOp {
         branch_rows!(name_of, self)
     }
 
-    /// The row that fixes these.
+    /// Returns the row that fixes these.
     #[tactic(auto, unfolding(crate::specs::Reading::branch_by_row))]
     pub(crate) fn find(opcode: u32, funct3: u32, high: u32) -> Option<BranchOp>
         ensures { result ≡ branch_by_row opcode funct3 high }
@@ -198,7 +198,7 @@ impl ImmOp {
         imm_rows!(fixed_of, self)
     }
 
-    /// The row's name.
+    /// Returns the row's name.
     pub(crate) fn name(self) -> &'static [u8]
         ensures same { result.now ≡ (imm_row self).name }
         ensures short { length result.now ≤ 16 }
@@ -206,7 +206,7 @@ impl ImmOp {
         imm_rows!(name_of, self)
     }
 
-    /// The row that fixes these.
+    /// Returns the row that fixes these.
     #[tactic(auto, unfolding(crate::specs::Reading::imm_by_row))]
     pub(crate) fn find(opcode: u32, funct3: u32, high: u32) -> Option<ImmOp>
         ensures { result ≡ imm_by_row opcode funct3 high }
@@ -224,7 +224,7 @@ impl ShiftOp {
         shift_rows!(fixed_of, self)
     }
 
-    /// The row's name.
+    /// Returns the row's name.
     pub(crate) fn name(self) -> &'static [u8]
         ensures same { result.now ≡ (shift_row self).name }
         ensures short { length result.now ≤ 16 }
@@ -232,7 +232,7 @@ impl ShiftOp {
         shift_rows!(name_of, self)
     }
 
-    /// The row that fixes these.
+    /// Returns the row that fixes these.
     #[tactic(auto, unfolding(crate::specs::Reading::shift_by_row))]
     pub(crate) fn find(opcode: u32, funct3: u32, high: u32) -> Option<ShiftOp>
         ensures { result ≡ shift_by_row opcode funct3 high }
@@ -250,7 +250,7 @@ impl StoreOp {
         store_rows!(fixed_of, self)
     }
 
-    /// The row's name.
+    /// Returns the row's name.
     pub(crate) fn name(self) -> &'static [u8]
         ensures same { result.now ≡ (store_row self).name }
         ensures short { length result.now ≤ 16 }
@@ -258,7 +258,7 @@ impl StoreOp {
         store_rows!(name_of, self)
     }
 
-    /// The row that fixes these.
+    /// Returns the row that fixes these.
     #[tactic(auto, unfolding(crate::specs::Reading::store_by_row))]
     pub(crate) fn find(opcode: u32, funct3: u32, high: u32) -> Option<StoreOp>
         ensures { result ≡ store_by_row opcode funct3 high }
@@ -276,7 +276,7 @@ impl RegOp {
         reg_rows!(fixed_of, self)
     }
 
-    /// The row's name.
+    /// Returns the row's name.
     pub(crate) fn name(self) -> &'static [u8]
         ensures same { result.now ≡ (reg_row self).name }
         ensures short { length result.now ≤ 16 }
@@ -284,7 +284,7 @@ impl RegOp {
         reg_rows!(name_of, self)
     }
 
-    /// The row that fixes these.
+    /// Returns the row that fixes these.
     #[tactic(auto, unfolding(crate::specs::Reading::reg_by_row))]
     pub(crate) fn find(opcode: u32, funct3: u32, high: u32) -> Option<RegOp>
         ensures { result ≡ reg_by_row opcode funct3 high }
@@ -294,7 +294,7 @@ impl RegOp {
 }
 
 impl Instr {
-    /// The row's name, as a listing prints it: `addi`.
+    /// Returns the row's name, as a listing prints it: `addi`.
     pub fn name(&self) -> Piece
         ensures { result ≡ (row_of self.now).name }
     {

@@ -13,7 +13,7 @@ use Rattle.lg_sel.specs.Holes.{Holes, fixes_of, Each}
 is-true : IsTrue true
 is-true = search rules
 
--- what stands behind the front of a list that was lengthened
+-- what is after the front of a list that was lengthened
 pub lengthened : {A : Type 0} (xs new more : List A) → new ≡ xs ++ more → new ≡ xs ++ drop (length xs) new
 lengthened xs new more e = e ∙ ap (λ ys. xs ++ ys) (sym (ap (drop (length xs)) e ∙ drop_at xs more (length xs) refl))
 

@@ -7,7 +7,7 @@ use Rattle.lg_sel.specs.Holes.{Holes, blanks, settled, fixes_of, Each, ones}
 use Rattle.lg_sel.proofs.ListLemmas.{each-append, settled-append, settled-ones, fixes-append, fixes-ones}
 
 module _ {L I : Type 0} (H : Holes L I) (is_store : I → Bool) (passes : L → Type 0) where
-  -- the labels of each pass a test, there are at most so many fixes wherever they stand, and at most so many of their instructions store, whatever the
+  -- the labels of each pass a test, there are at most this many fixes wherever they are, and at most this many of their instructions store, whatever the
   -- labels are
   pub record Emits (fixes stores : ℕ) (xs : List L) : Type 0 where
     pub named : Each passes xs

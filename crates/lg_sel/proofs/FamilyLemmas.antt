@@ -64,7 +64,7 @@ module _ {L : Type 0} (F : Families L) (P : Node → List L → Type 0) (frame :
   pub of-node : (n : Node) → P n (node_items F n frame choices staged place)
   of-node n = by n.op n.operands n.line
 
--- the nodes that compute values go on behind them
+-- the nodes that compute values continue after them
 pub value-still : (target : Target) (o : Op) → is_value o ≡ true → moves_stack target o ≡ false
 value-still target (op.Binary o last) is = refl
 value-still target (op.Wide o last) is = refl

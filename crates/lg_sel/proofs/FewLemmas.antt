@@ -1,10 +1,10 @@
--- Good items, of which there are few: instructions alone, and two lists in a row.
+-- Good items (few): instructions alone, and two lists in a row.
 use Rattle.std.proofs.Common.{◌≡◌, ℕ, ◌+◌, ◌≤◌, Bool, List, [], ◌++◌, length, ap, ◌∙◌, arith, length-append}
 use Rattle.lg_sel.proofs.ListLemmas.{each-append, words_append, words-ones, fixes-append, fixes-ones}
 use Rattle.lg_sel.specs.GoodItems.{GoodItemsAreAppendable, AreFew}
 use Rattle.lg_sel.specs.Holes.{Holes, Each, words_in, blanks, fixes_of, ones}
 
--- at most so many instructions and fixes
+-- at most this many instructions and fixes
 pub record AreBounded {L I : Type 0} (H : Holes L I) (is_good : L → Type 0) (most fixes : ℕ) (xs : List L) : Type 0 where
   pub good : Each is_good xs
   pub short : words_in H xs ≤ most

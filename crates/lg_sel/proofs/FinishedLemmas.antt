@@ -85,7 +85,7 @@ module _ {L I : Type 0} (H : Holes L I) (spelling : I → List ℕ) (fits : I �
     form = form;
   }
 
--- where the items become instructions of which the first do not count from their own place, and the others have a form, so do the bytes
+-- where the items become instructions the first of which do not count from their own place, and the others have a form, so do the bytes
 pub items-lead : {L I : Type 0} (H : Holes L I) (spelling : I → List ℕ) (fits : I → Type 0) (is_item : L → Type 0) → AreHoles H spelling fits is_item
     → (is_relative : I → Bool) (has_form : ℕ → List I → Type 0) (old new : Buffer) (code : List ℕ) (c : Code) (i : ℕ) (items : List L)
     → AreAppended H old new items → Each is_item items → IsFinished old new code c i → (front : List I) (leap : I) (rest : List I)

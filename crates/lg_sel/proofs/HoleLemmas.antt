@@ -1,4 +1,4 @@
--- Items that stand in a buffer become instructions when its fixes are patched.
+-- Items that are in a buffer become instructions when its fixes are patched.
 use Rattle.std.proofs.Common.{◌≡◌, ℕ, ◌+◌, ◌<◌, ◌≤◌, inl, inr, List, [], ◌∷◌, ◌++◌, length, drop, get_or, Option, refl, sym, ap, subst, ◌∙◌, arith}
 use Rattle.std.proofs.Common.{append_assoc, length-append}
 use Rattle.std.proofs.Math.Seq.{get_or-append_seam}
@@ -14,7 +14,7 @@ use Rattle.lg_sel.proofs.ListLemmas.{spellings-append}
 use Rattle.lg_sel.specs.Holes.{Holes, words_in, blanks, settled, fixes_of, Each, IsWithin, IsApartFrom, HaveAddresses, IsPatched, IsSettled, AreHoles}
 use Rattle.lg_sel.specs.Holes.{StandAt, ItemsAreSettled}
 
--- what stands behind a list
+-- what is after a list
 dropped : (xs ys : List ℕ) → drop (length xs) (xs ++ ys) ≡ ys
 dropped [] ys = refl
 dropped (x ∷ xs) ys = dropped xs ys
@@ -46,7 +46,7 @@ module _ {L I : Type 0} (H : Holes L I) (spelling : I → List ℕ) (fits : I �
       let size = length-append (H.blank x) (blanks H xs) in
       let here = ok.long to p x each.0 in let rest = settled-bytes to q xs each.1 in omega (arith, split, sum, size, here, rest)
 
-  -- the fixes of items lie behind the place where they begin
+  -- the fixes of items lie after the place where they begin
   fixes-behind : (p q : ℕ) (items : List L) → Each is_item items → q ≤ p → All (λ f. q ≤ f.place) (fixes_of H p items)
   fixes-behind p q [] each h = All-nil (λ f. q ≤ f.place)
   fixes-behind p q (x ∷ xs) each h =
@@ -54,12 +54,12 @@ module _ {L I : Type 0} (H : Holes L I) (spelling : I → List ℕ) (fits : I �
       (All-weaker (IsWithin p (length (H.blank x))) (λ f. q ≤ f.place) (λ f w. omega (arith, w.0, h)) (H.fix_of p x) (ok.within p x each.0))
       (fixes-behind (p + length (H.blank x)) q xs each.1 (omega (arith, h)))
 
-  -- the fixes of an item have none of the bytes behind it
+  -- the fixes of an item have none of the bytes after it
   fixes-apart : (p n : ℕ) (x : L) → is_item x → All (IsApartFrom (p + length (H.blank x)) n) (H.fix_of p x)
   fixes-apart p n x item = All-weaker (IsWithin p (length (H.blank x))) (IsApartFrom (p + length (H.blank x)) n) (λ f w. inl w.1) (H.fix_of p x)
       (ok.within p x item)
 
-  -- the items behind the first
+  -- the items after the first
   next : (emitted : List ℕ) (fixes : List Fix) (p : ℕ) (x : L) (xs : List L) → is_item x → StandAt H emitted fixes p (x ∷ xs)
       → StandAt H emitted fixes (p + length (H.blank x)) xs
   next emitted fixes p x xs item s =

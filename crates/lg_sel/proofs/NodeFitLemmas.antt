@@ -47,7 +47,7 @@ passed labels (operand.Reg r) named l e = cc
 passed labels (operand.Host name) named l e = cc
 passed labels (operand.Slot k) named l e = cc
 
--- so many arguments are staged at a `pushargr` or `pushargi`
+-- this many arguments are staged at a `pushargr` or `pushargi`
 pub few-staged : {target : Target} {needs : Op → List Need} (n : Node) (live : Reg → Bool) (staged : List Bool) (choices : List Choice) (labels : ℕ) (last : LastOperand) → IsAsked target needs n live staged choices labels
     → n.op ≡ op.Control control.Pusharg last → staged_count staged < 16
 few-staged n live staged choices labels last k e =
@@ -61,7 +61,7 @@ module _ {L : Type 0} (target : Target) (needs : Op → List Need) (F : Families
   pub are-made : (n : Node) (live : Reg → Bool) (staged : List Bool) (choices : List Choice) (labels : ℕ) (k : IsAsked target needs n live staged choices labels) → AreMade n live k.chosen.set choices
   are-made n live staged choices labels k = choices-are-for (around target n live k.chosen.set) (needs n.op) choices k.chosen.chosen
 
-  -- ---- items that can be appended: they are in range and name labels of the buffer, of which there are so many
+  -- ---- items that can be appended: they are in range and name labels of the buffer (this many)
   module _ (is_item : L → Type 0) (names_one_of : ℕ → L → Type 0) (labels : ℕ) where
     pub record Fit (xs : List L) : Type 0 where
       pub instrs : Each is_item xs

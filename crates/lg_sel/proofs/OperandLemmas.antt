@@ -44,7 +44,7 @@ pub has-words : (n : Node) → HaveWords n.operands → HasWords n
 has-words n words k v e = word-is (operand_at n k) v e (word-at n.operands k words)
 
 -- ---- labels
--- forms that stand for no label but in the place of an immediate
+-- forms that denote no label but in the place of an immediate
 abbrev pub leads_nowhere : List Form → Bool
 leads_nowhere [] = true
 leads_nowhere (form.Target ∷ fs) = false
@@ -73,7 +73,7 @@ no-labels (f ∷ fs) (x ∷ xs) e a h =
 true-false : {A : Type 0} → true ≡ false → A
 true-false e = cc
 
--- where no label may stand in the place of an immediate, none does
+-- where no label may be in the place of an immediate, none does
 pub unlabelled : (n : Node) → may_take_label n.op ≡ false → TakesLabelsWell n → has_label_for (forms_of n.op) n.operands ≡ false
 unlabelled n may takes = by (has_label_for (forms_of n.op) n.operands) refl
   where

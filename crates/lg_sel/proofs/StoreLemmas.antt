@@ -53,6 +53,6 @@ module _ {I : Type 0} (is_store : I → Bool) where
   none-if false is js a c = c
 
 -- ---- of a node
--- how many its code may have, where a `prolog` stores so many homes and saves so many of V0, V1 and V2
+-- how many its code may have, where a `prolog` stores this many homes and saves this many of V0, V1 and V2
 abbrev pub allowed : Target → ℕ → ℕ → List Choice → Op → ℕ
 allowed target homes saved choices o = spills choices + own_stores target homes saved o

@@ -16,11 +16,11 @@ touched (Ldrx rt rn rm) w = record { from = add_words (w rn) (read w rm); width 
 touched (Unscaled op rt rn imm) w = record { from = add_words (w rn) (word_of imm); width = 8 }
 touched i w = nothing
 
--- of the instruction that stands at the front of bytes, if one does
+-- of the instruction that is at the front of bytes, if one does
 abbrev pub touched_by : Option (Instr × ℕ) → (ℕ → ℕ) → Span
 touched_by None w = nothing
 touched_by (Some (i, len)) w = touched i w
 
--- of what stands at an address of the code
+-- of what is at an address of the code
 abbrev pub touched_at : List ℕ → ℕ → (ℕ → ℕ) → Span
 touched_at code pc w = touched_by (front_of (drop (pc - code_base) code)) w

@@ -10,8 +10,8 @@ use Rattle.lg_sel.specs.Selected.{AreChosen, AreFirst, is_pusharg, TakesLabelsWe
 use Rattle.lg_temp.specs.declared.choice.Choice.{Choice}
 use Rattle.lg_temp.specs.declared.choice.Need.{Need}
 
--- the choices are those for the node's needs, a `pushargr` or `pushargi` finds the first arguments staged, and the node names labels of the buffer, of
--- which there are so many, and those in the place of an immediate only where they may stand
+-- the choices are those for the node's needs, a `pushargr` or `pushargi` finds the first arguments staged, and the node names labels of the buffer (this
+-- many), and those in the place of an immediate only where they may be
 pub record IsAsked (target : Target) (needs : Op → List Need) (n : Node) (live : Reg → Bool) (staged : List Bool) (choices : List Choice)
     (labels : ℕ) : Type 0 where
   pub formed : InForm n

@@ -50,7 +50,7 @@ pub record IsBackend {L I : Type 0} (target : Target) (needs : Op → List Need)
   pub emittable : (reach : Reach) (n : Node) (live : Reg → Bool) (site : Site) (labels place : ℕ)
       → IsAsked target needs n live site.staged.arguments site.choices labels → words_in H (items reach n site place) ≤ 64
       → AreEmittable H is_item names_one_of labels (items reach n site place)
-  -- they have whole units of bytes, those of a `prolog` some, and behind those of an `.align` the place is a multiple of its number
+  -- they have whole units of bytes, those of a `prolog` some, and after those of an `.align` the place is a multiple of its number
   pub whole : (reach : Reach) (n : Node) (site : Site) (place : ℕ) → place % alignment_of target ≡ 0
       → (place + length (blanks H (items reach n site place))) % alignment_of target ≡ 0
   pub begins : (reach : Reach) (n : Node) (site : Site) (place : ℕ) → is_prolog n.op ≡ true → 0 < length (blanks H (items reach n site place))

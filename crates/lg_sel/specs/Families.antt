@@ -11,9 +11,9 @@ use Rattle.lg_op.specs.declared.op.ValueType.{ValueType}
 use Rattle.lg_op.specs.declared.operand.Operand.{Operand}
 use Rattle.lg_temp.specs.declared.choice.Choice.{Choice}
 
--- those of nodes that compute values with these choices, that load and store with them, read an argument, read the next variable argument, and pass
--- argument j; and those of the nodes that branch, jump, call or return, of `prolog`, `.align` and those without code, with their operands and the place;
--- each in a function with a frame of so many bytes
+-- those of nodes that compute values with these choices, that load and store with them, read an argument, read the next variable argument, and pass argument
+-- j; and those of the nodes that branch, jump, call or return, of `prolog`, `.align` and those without code, with their operands and the place; each in a
+-- function with a frame of this many bytes
 pub record Families (L : Type 0) : Type 0 where
   pub values : ℕ → Node → List Choice → List L
   pub load : ℕ → ValueType → Addressing → Node → List Choice → List L

@@ -29,7 +29,7 @@ ItemsAreWhole {L} H spelling fits is_item =
     (old new : Buffer) (code : List ℕ) (c : Code) (i : ℕ) (items : List L) → AreAppended H old new items → Each is_item items → IsFinished old new code c i
     → AreWhole spelling fits (part_of code (length old.bytes) (length new.bytes - length old.bytes))
 
--- of which as many store as of the instructions that the items become
+-- as many of which store as of the instructions that the items become
 abbrev pub ItemsAreSparing : {L I : Type 0} → Holes L I → (I → List ℕ) → (I → Type 0) → (L → Type 0) → Type 0
 ItemsAreSparing {L} {I} H spelling fits is_item =
     (is_store : I → Bool) (old new : Buffer) (code : List ℕ) (c : Code) (i : ℕ) (items : List L) (most : ℕ) → AreAppended H old new items → Each is_item items

@@ -1,4 +1,4 @@
--- Items of which each is good: in range, within the conventions, and, but for those that jump, followed by the next.
+-- Items each of which is good: in range, within the conventions, and, but for those that jump, followed by the next.
 use Rattle.std.specs.Prelude.{◌≡◌, ℕ, ◌<◌, ◌≤◌, Bool, true, List, length}
 use Rattle.std.specs.List.{All}
 use Rattle.lg_carry.specs.Blocks.{IsBlock}
@@ -31,7 +31,7 @@ pub record AreAppendable {L I : Type 0} (H : Holes L I) (straight : I → Bool) 
 abbrev pub GoodItemsAreAppendable : {L I : Type 0} → Holes L I → (I → Bool) → (L → Type 0) → (L → Type 0) → (L → Type 0) → Type 0
 GoodItemsAreAppendable {L} H straight is_item stays good = (items : List L) → Each good items → AreAppendable H straight is_item stays items
 
--- items that can be appended to a buffer with so many labels, with at most one fix; and where the node leaps there are some
+-- items that can be appended to a buffer with this many labels, with at most one fix; and where the node transfers control there are some
 pub record AreEmitted {L I : Type 0} (H : Holes L I) (is_item : L → Type 0) (names_one_of : ℕ → L → Type 0) (count : ℕ) (leaping : Bool)
     (xs : List L) : Type 0 where
   pub items : Each is_item xs
@@ -39,7 +39,7 @@ pub record AreEmitted {L I : Type 0} (H : Holes L I) (is_item : L → Type 0) (n
   pub one_fix : (place : ℕ) → length (fixes_of H place xs) ≤ 1
   pub some : leaping ≡ true → 0 < words_in H xs
 
--- appendable items, of which there are at most so many instructions, with at most one fix
+-- appendable items (at most this many instructions), with at most one fix
 pub record AreFew {L I : Type 0} (H : Holes L I) (straight : I → Bool) (is_item stays : L → Type 0) (most : ℕ) (items : List L) : Type 0 where
   pub appendable : AreAppendable H straight is_item stays items
   pub short : words_in H items ≤ most

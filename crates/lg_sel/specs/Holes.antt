@@ -9,8 +9,8 @@ use Rattle.lg_cpu.specs.Laws.{AreBytes}
 use Rattle.lg_carry.specs.Blocks.{spellings}
 
 -- ---- what an item is
--- how many instructions an item has, its bytes as they are emitted, its instructions where the labels have these addresses and it stands at one, and its
--- fixes where it stands at a place of the buffer
+-- how many instructions an item has, its bytes as they are emitted, its instructions where the labels have these addresses and it is at one, and its fixes
+-- where it is at a place of the buffer
 pub record Holes (L I : Type 0) : Type 0 where
   pub words : L → ℕ
   pub blank : L → List ℕ
@@ -67,7 +67,7 @@ abbrev pub WordsAppend : {L I : Type 0} → Holes L I → Type 0
 WordsAppend {L} H = (xs ys : List L) → words_in H (xs ++ ys) ≡ words_in H xs + words_in H ys
 
 -- ---- what patched bytes become
--- a fix lies within so many bytes from a place on, or has none of them
+-- a fix lies within this many bytes from a place on, or has none of them
 abbrev pub IsWithin : ℕ → ℕ → Fix → Type 0
 IsWithin place count f = (place ≤ f.place) × (f.place + fix_len f.kind ≤ place + count)
 
@@ -78,7 +78,7 @@ IsApartFrom place count f = (f.place + fix_len f.kind ≤ place) ⊎ (place + co
 abbrev pub HaveAddresses : List (Option ℕ) → (ℕ → ℕ) → Type 0
 HaveAddresses labels to = (label target : ℕ) → place_of labels label ≡ Some target → to label ≡ code_base + target
 
--- an item stands at a place of a buffer, its fixes are done, and its other bytes are as they were emitted
+-- an item is at a place of a buffer, its fixes are done, and its other bytes are as they were emitted
 pub record IsPatched {L I : Type 0} (H : Holes L I) (labels : List (Option ℕ)) (emitted finished : List ℕ) (place : ℕ) (x : L) : Type 0 where
   pub rest : List ℕ
   pub stands : drop place emitted ≡ H.blank x ++ rest
@@ -87,7 +87,7 @@ pub record IsPatched {L I : Type 0} (H : Holes L I) (labels : List (Option ℕ))
   pub done : All (IsDone labels emitted finished) (H.fix_of place x)
   pub others : (i : ℕ) → place ≤ i → i < place + length (H.blank x) → All (IsOutside i) (H.fix_of place x) → slice_index finished i ≡ slice_index emitted i
 
--- the instructions stand at a place of the code, and are those of the processor
+-- the instructions are at a place of the code, and are those of the processor
 pub record IsSettled {I : Type 0} (spelling : I → List ℕ) (fits : I → Type 0) (finished : List ℕ) (place behind : ℕ) (is : List I) : Type 0 where
   pub stands : drop place finished ≡ spellings spelling is ++ drop behind finished
   pub fit : All fits is
@@ -101,7 +101,7 @@ pub record AreHoles {L I : Type 0} (H : Holes L I) (spelling : I → List ℕ) (
   pub settles : (labels : List (Option ℕ)) (emitted finished : List ℕ) (to : ℕ → ℕ) (place : ℕ) (x : L) → is_item x → HaveAddresses labels to
       → IsPatched H labels emitted finished place x → IsSettled spelling fits finished place (place + length (H.blank x)) (H.settle to (code_base + place) x)
 
--- the items stand at a place of a buffer, with their fixes among the buffer's, and no other fix has one of their bytes
+-- the items are at a place of a buffer, with their fixes among the buffer's, and no other fix has one of their bytes
 pub record StandAt {L I : Type 0} (H : Holes L I) (emitted : List ℕ) (all_fixes : List Fix) (place : ℕ) (items : List L) : Type 0 where
   pub rest : List ℕ
   pub bytes : drop place emitted ≡ blanks H items ++ rest
@@ -111,7 +111,7 @@ pub record StandAt {L I : Type 0} (H : Holes L I) (emitted : List ℕ) (all_fixe
   pub apart_before : All (IsApartFrom place (length (blanks H items))) before
   pub apart_behind : All (IsApartFrom place (length (blanks H items))) behind
 
--- where the fixes of a buffer are patched, items that stand in it become instructions with the addresses of the labels
+-- where the fixes of a buffer are patched, items that are in it become instructions with the addresses of the labels
 abbrev pub ItemsAreSettled : {L I : Type 0} → Holes L I → (I → List ℕ) → (I → Type 0) → (L → Type 0) → Type 0
 ItemsAreSettled {L} H spelling fits is_item =
     (labels : List (Option ℕ)) (fixes : List Fix) (emitted finished : List ℕ) (to : ℕ → ℕ) (place : ℕ) (items : List L)

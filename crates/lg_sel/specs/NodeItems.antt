@@ -1,4 +1,4 @@
--- Code of which some items are those of a node.
+-- Code, some items of which are those of a node.
 use Rattle.std.specs.Prelude.{◌≡◌, ℕ, ◌+◌, ◌-◌, ◌^◌, ◌<◌, ◌≤◌, Bool, true, List, length, slice_get, slice_index}
 use Rattle.std.specs.List.{All}
 use Rattle.lg_base.specs.Layout.{code_base, most_code}
@@ -27,7 +27,7 @@ pub record AreOfNode {L Q I : Type 0} (H : Holes L I) (R : Rows Q I) (fits : I �
   pub few : words_in H items ≤ 64
   pub stay : All (stays (moves_at R.processor.target (slice_get c.nodes.nodes i))) (settled H (slice_index c.addresses) (c.place i) items)
 
--- the processor runs this code, and the registers that a call does not keep hold a word behind it
+-- the processor runs this code, and the registers that a call does not keep hold a word after it
 pub record AreInCode {L Q I : Type 0} (H : Holes L I) (R : Rows Q I) (fits : I → Type 0) (stays : Bool → I → Type 0) (is_item : L → Type 0) (trash : ℕ) (c : Code) (i : ℕ)
     (items : List L) : Type 0 where
   pub small : length R.code ≤ most_code
@@ -35,7 +35,7 @@ pub record AreInCode {L Q I : Type 0} (H : Holes L I) (R : Rows Q I) (fits : I �
   pub word : trash < 2 ^ 64
   pub of_node : AreOfNode H R fits stays is_item c i items
 
--- they are the code of the node, of which a branch, jump, call or return has some
+-- they are the code of the node, and a branch, jump, call or return has some
 abbrev pub ItemsAreNodeCode : {L Q I : Type 0} → Holes L I → Rows Q I → (I → Type 0) → (Bool → I → Type 0) → (L → Type 0) → Type 0
 ItemsAreNodeCode {L} H R fits stays is_item =
     (c : Code) (i : ℕ) (items : List L) → AreOfNode H R fits stays is_item c i items → (leaps_at (slice_get c.nodes.nodes i) ≡ true → 0 < words_in H items)

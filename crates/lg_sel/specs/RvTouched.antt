@@ -27,11 +27,11 @@ touched (Imm op rd rs1 imm) w = record { from = add_words (read w rs1) (word_of 
 touched (Store op rs1 rs2 imm) w = record { from = add_words (read w rs1) (word_of imm); width = store_width op }
 touched i w = nothing
 
--- of the instruction that stands at the front of bytes, if one does
+-- of the instruction that is at the front of bytes, if one does
 abbrev pub touched_by : Option (Instr × ℕ) → (ℕ → ℕ) → Span
 touched_by None w = nothing
 touched_by (Some (i, len)) w = touched i w
 
--- of what stands at an address of the code
+-- of what is at an address of the code
 abbrev pub touched_at : List ℕ → ℕ → (ℕ → ℕ) → Span
 touched_at code pc w = touched_by (front_of (drop (pc - code_base) code)) w

@@ -61,7 +61,7 @@ first_arguments n = replicate n true ++ replicate (16 - n) false
 abbrev pub AreFirst : List Bool → Type 0
 AreFirst staged = (n : ℕ) × (n < 16) × (staged ≡ first_arguments n)
 
--- a label stands in the place of an immediate
+-- a label is in the place of an immediate
 abbrev pub is_label_for : Form → Operand → Bool
 is_label_for Immediate (operand.Label l) = true
 is_label_for f x = false
@@ -92,8 +92,8 @@ abbrev pub MayBeLed : FixKind → ℕ → ℕ → ℕ → Option ℕ → Type 0
 MayBeLed kind size place target (Some bound) = target ≡ bound
 MayBeLed kind size place target None = IsReached (reach_of kind) size place target
 
--- a field that lies behind the bytes of the old buffer leads to a label of the node, and reaches every place to which it may be led, at which an
--- instruction may stand, which is a multiple of the unit
+-- a field that lies after the bytes of the old buffer leads to a label of the node, and reaches every place to which it may be led, at which an instruction
+-- may be, which is a multiple of the unit
 pub record IsFixOf (unit : ℕ) (old : Buffer) (n : Node) (f : Fix) : Type 0 where
   pub from : length old.bytes ≤ f.place
   pub names : list_any (is_label f.label.0) n.operands ≡ true
@@ -120,8 +120,8 @@ pub record IsFinished (old new : Buffer) (code : List ℕ) (c : Code) (i : ℕ) 
   pub next : c.place (i + 1) ≡ code_base + length new.bytes
   pub addresses : HaveAddresses labels (slice_index c.addresses)
 
--- the node is node i of an accepted text: its function has this frame, and where it is a `prolog` reads at most so many homes; its labels are code labels, and
--- these arguments are staged at it, among them all that are pushed; at a `pushargr` or `pushargi` none but these. The nodes stand in the code part, those
+-- the node is node i of an accepted text: its function has this frame, and where it is a `prolog` reads at most this many homes; its labels are code labels,
+-- and these arguments are staged at it, among them all that are pushed; at a `pushargr` or `pushargi` none but these. The nodes are in the code part, those
 -- to which the code may jump at multiples of the unit, and all addresses of labels are below 2 ^ 30, as all of the memory is
 pub record IsNodeOf (unit : ℕ) (node : Node) (frame homes saved : ℕ) (staged : List Bool) (c : Code) (i : ℕ) : Type 0 where
   pub text : IsInText c i node
@@ -140,10 +140,10 @@ pub record AreWhole {I : Type 0} (spelling : I → List ℕ) (fits : I → Type 
   pub fit : All fits instructions
   pub bytes_are : bytes ≡ spellings spelling instructions
 
--- so many bytes from a place on
+-- this many bytes from a place on
 abbrev pub part_of : List ℕ → ℕ → ℕ → List ℕ
 part_of code place count = take count (drop place code)
 
--- behind an `.align` the place is a multiple of its number
+-- after an `.align` the place is a multiple of its number
 abbrev pub IsAligned : Node → ℕ → Type 0
 IsAligned node behind = (n : ℕ) → node.op ≡ op.Plain plain.Align → node.operands ≡ operand.Number n ∷ [] → behind % n ≡ 0

@@ -50,8 +50,8 @@ rv_is_relative (rv_instr.Upper Auipc rd imm) = true
 rv_is_relative i = false
 
 -- ---- the code of a node that leads to a label
--- bytes that begin at a place are the spellings of instructions. The first ones do not count from their own place; the others, of which the first does,
--- have a form, at the place where they begin
+-- bytes that begin at a place are the spellings of instructions. The first ones do not count from their own place; the others, the first of which does, have
+-- a form, at the place where they begin
 pub record LeadsBy {I : Type 0} (spelling : I → List ℕ) (fits : I → Type 0) (is_relative : I → Bool) (has_form : ℕ → List I → Type 0) (place : ℕ)
     (bytes : List ℕ) : Type 0 where
   pub front : List I

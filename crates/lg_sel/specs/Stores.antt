@@ -61,7 +61,8 @@ abbrev pub frame_stores : Target → ℕ
 frame_stores X86_64 = 1
 frame_stores target = 2
 
--- the stores that a node has beside those that save its temporaries: a `prolog` stores these homes of register arguments, and saves so many of V0, V1 and V2
+-- the stores that a node has beside those that save its temporaries: a `prolog` stores these homes of register arguments, and saves this many of V0, V1 and
+-- V2
 abbrev pub own_stores : Target → ℕ → ℕ → Op → ℕ
 own_stores target homes saved (op.Store t at) = rows_stored target t
 own_stores target homes saved (op.Control control.Pusharg last) = 1
@@ -69,7 +70,7 @@ own_stores target homes saved (op.Plain plain.Prolog) = frame_stores target + le
 own_stores target homes saved o = 0
 
 -- ---- bytes that store seldom
--- they are the spellings, in a row, of instructions of which at most so many store
+-- they are the spellings, in a row, of instructions at most this many of which store
 pub record StoresAtMost {I : Type 0} (spelling : I → List ℕ) (fits : I → Type 0) (is_store : I → Bool) (most : ℕ) (bytes : List ℕ) : Type 0 where
   pub instructions : List I
   pub fit : All fits instructions

@@ -22,7 +22,7 @@ flags_on X86_64 flags = flags
 abbrev pub seen_on : Target → Run CpuState → Seen
 seen_on target r = record { pc = r.state.pc; registers = r.state.registers; bytes = r.state.bytes; mark = r.state.mark; flags = flags_on target r.state.flags }
 
--- the bytes that what stands at an address of the code loads or stores
+-- the bytes that what is at an address of the code loads or stores
 abbrev pub touches_on : Target → List ℕ → ℕ → (ℕ → ℕ) → Span
 touches_on X86_64 code = x86.touched_at code
 touches_on Aarch64 code = a64.touched_at code
@@ -32,7 +32,7 @@ touches_on Riscv64 code = rv.touched_at code
 abbrev pub processor_of : Target → List ℕ → ℕ → Processor (Run CpuState)
 processor_of target code trash = record { target = target; machine = machine_of target code trash; seen = seen_on target; touches = touches_on target code }
 
--- instructions stand at multiples of so many bytes
+-- instructions are at multiples of this many bytes
 abbrev pub alignment_of : Target → ℕ
 alignment_of X86_64 = 1
 alignment_of target = 4

@@ -31,11 +31,11 @@ touched (JumpReg Callr rm) w = beneath w
 touched (Bare Ret) w = top w
 touched i w = nothing
 
--- of the instruction that stands at the front of bytes, if one does
+-- of the instruction that is at the front of bytes, if one does
 abbrev pub touched_by : Option (Instr × ℕ) → (ℕ → ℕ) → Span
 touched_by None w = nothing
 touched_by (Some (i, len)) w = touched i w
 
--- of what stands at an address of the code
+-- of what is at an address of the code
 abbrev pub touched_at : List ℕ → ℕ → (ℕ → ℕ) → Span
 touched_at code pc w = touched_by (front_of (drop (pc - code_base) code)) w

@@ -21,7 +21,7 @@ pub trait ItemList<L: Item>: Drop {
     /// The list.
     ghost items: { Self → List L };
 
-    /// The items.
+    /// Returns the items.
     fn items(&self) -> &[L]
         ensures { result.now ≡ items self.now };
 

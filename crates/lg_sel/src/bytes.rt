@@ -60,7 +60,7 @@ impl Bytes {
         self.len = 0;
     }
 
-    /// The bytes.
+    /// Returns the bytes.
     pub fn as_slice(&self) -> &[u8]
         ensures value { result.now ≡ self.now }
         ensures room { length result.now ≤ 256 }

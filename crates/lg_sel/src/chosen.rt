@@ -17,7 +17,7 @@ use lg_live::RegSet;
 use lg_op::Node;
 use lg_temp::{Choices, Needs, Staged, choose};
 
-/// The choices for the needs of a node: none where it needs none, as most nodes, and else those of `choose`.
+/// Returns the choices for the needs of a node: none where it needs none, as most nodes, and else those of `choose`.
 pub fn choices_for(
     target: Target,
     needs: &Needs,

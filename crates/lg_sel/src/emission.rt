@@ -10,7 +10,7 @@ use crate::item::Item;
 use crate::items::Items;
 use lg_buf::CodeBuf;
 
-/// Appends the code of items to a buffer, with 0 in the fields of labels and a fix for each, or answers false and changes nothing
+/// Appends the code of items to a buffer, with 0 in the fields of labels and a fix for each, or returns false and changes nothing
 /// exactly where too few bytes are free. The items are in the ranges of their instructions, have at most 256 bytes and name labels of the buffer, and
 /// there is room for their fixes.
 #[must_use]
@@ -50,7 +50,7 @@ pub(crate) fn spell_all<L: Item>(items: &[L], bytes: &mut Bytes)
     }
 }
 
-// Makes the fix of an item whose bytes stand at a place, behind those of all fixes.
+// Makes the fix of an item whose bytes are at a place, after those of all fixes.
 fn fix_one<L: Item>(item: &L, place: u32, buf: &mut CodeBuf)
     requires item { L.is_item item.now }
     requires emitted { place + length (blank_of L.holes item.now) ≤ length buf.old.bytes }
@@ -68,7 +68,7 @@ fn fix_one<L: Item>(item: &L, place: u32, buf: &mut CodeBuf)
     }
 }
 
-// Makes the fixes of all items, whose bytes stand from a place on, behind those of all fixes.
+// Makes the fixes of all items, whose bytes begin at a place, after those of all fixes.
 fn fix_all<L: Item>(items: &[L], place: u32, buf: &mut CodeBuf)
     requires items { Each L.is_item items.now }
     requires emitted { place + length (blanks L.holes items.now) ≤ length buf.old.bytes }

@@ -21,7 +21,7 @@ pub trait Item: Copy + Drop + Default {
     /// Its numbers are in the ranges of its instructions.
     ghost is_item: { Self → Type 0 };
 
-    /// It names one of so many labels, or none.
+    /// It names one of n labels, or none.
     ghost names_one_of: { ℕ → Self → Type 0 };
 
     /// An instruction that names no label.
@@ -34,12 +34,12 @@ pub trait Item: Copy + Drop + Default {
         requires room { length bytes.old + length (blank_of holes self.now) ≤ 256 }
         ensures { bytes.new ≡ bytes.old ++ blank_of holes self.now };
 
-    /// How many bytes it has.
+    /// Returns how many bytes it has.
     fn size(&self) -> u32
         requires { is_item self.now }
         ensures { result ≡ length (blank_of holes self.now) };
 
-    /// The fix of an item whose bytes stand at a place, if it names a label. It lies within the item's bytes.
+    /// Returns the fix of an item whose bytes are at a place, if it names a label. It lies within the item's bytes.
     fn fix(&self, place: u32) -> Option<Fix>
         requires item { is_item self.now }
         requires small { place + length (blank_of holes self.now) < 2 ^ 32 }

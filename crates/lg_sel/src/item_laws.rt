@@ -39,7 +39,7 @@ pub trait HasHoles {
     ghost instructions_stay: { InstructionsStay rows stays };
 }
 
-/// Where the fixes of a buffer are patched, items that stand in it become instructions with the addresses of the labels.
+/// Where the fixes of a buffer are patched, items that are in it become instructions with the addresses of the labels.
 pub fn items_are_settled<T: HasHoles>()
     ensures { ItemsAreSettled T.holes T.rows.spelling T.fits T.is_item }
 {}
@@ -54,7 +54,7 @@ pub fn items_are_node_blocks<T: HasHoles>()
     ensures { ItemsAreNodeBlocks T.holes T.rows T.fits T.stays T.is_item }
 {}
 
-/// Items of a target of which each may be good.
+/// Items of a target, each of which may be good.
 pub trait HasGoodItems: HasHoles {
     /// Whether an item is good.
     ghost good: { Self.Item → Type 0 };

@@ -80,7 +80,7 @@ impl<L: Item> Items<L> {
         self.list.clear();
     }
 
-    /// The items.
+    /// Returns the items.
     pub fn as_slice(&self) -> &[L]
         ensures value { result.now ≡ self.now }
         ensures few { words_in L.holes result.now ≤ 64 }
@@ -88,7 +88,7 @@ impl<L: Item> Items<L> {
         self.list.as_slice()
     }
 
-    /// Appends the bytes of the items to a buffer, with 0 in the fields of labels, or answers false and changes nothing exactly where too few bytes are free.
+    /// Appends the bytes of the items to a buffer, with 0 in the fields of labels, or returns false and changes nothing exactly where too few bytes are free.
     #[must_use]
     pub(crate) fn emit(&mut self, buf: &mut CodeBuf) -> bool
         requires items { Each L.is_item self.old }

@@ -16,7 +16,7 @@ use lg_temp::Staged;
 // The most bytes of code.
 const MOST_CODE: u32 = 0x400_0000;
 
-// The reach with which code that leads ahead begins in a buffer of this size.
+// Returns the reach with which code that leads ahead begins in a buffer of this size.
 fn reach_ahead(size: u32) -> Reach
     ensures { result ≡ reach_ahead size }
 {
@@ -29,8 +29,8 @@ fn reach_ahead(size: u32) -> Reach
     }
 }
 
-/// The reach with which to begin for a node with these operands: the shortest, but where it leads to a label that is not bound yet the one that a
-/// buffer of this size asks for. Behind the last place of code, and where the first operand is no label, so that all reaches are one, it is the longest.
+/// Returns the reach with which to begin for a node with these operands: the shortest, but where it leads to a label that is not bound yet the one that a
+/// buffer of this size asks for. After the last place of code, and where the first operand is no label, so that all reaches are one, it is the longest.
 pub fn first_reach(operands: &[Operand], buf: &CodeBuf) -> Reach
     requires { NameBelow (length buf.now.labels) operands.now }
     ensures low { result ≢ Reach.Far → length buf.now.bytes ≤ most_code }
@@ -51,7 +51,7 @@ pub fn first_reach(operands: &[Operand], buf: &CodeBuf) -> Reach
     }
 }
 
-/// How many arguments are staged.
+/// Returns how many arguments are staged.
 pub fn staged_count(staged: &Staged) -> u32
     ensures { result ≡ staged_count staged.now.arguments }
 {

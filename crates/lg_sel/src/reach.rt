@@ -24,7 +24,7 @@ pub const SMALL_SIZE: u32 = 0x1000;
 /// The largest size of a buffer in which a field that reaches 1 MiB leads to every place that is fewer bytes away, in bytes.
 pub const NEAR_SIZE: u32 = 0x10_0000;
 
-// Whether a field of the kind may wait for a label that is not bound yet, in a buffer of this size.
+// Returns whether a field of the kind may wait for a label that is not bound yet, in a buffer of this size.
 fn may_wait(kind: FixKind, size: u32) -> bool
     ensures { result ≡ may_wait kind size }
 {
@@ -36,7 +36,7 @@ fn may_wait(kind: FixKind, size: u32) -> bool
     }
 }
 
-// Whether a field leads to the place of its label, or may wait for it.
+// Returns whether a field leads to the place of its label, or may wait for it.
 fn leads(fix: &Fix, buf: &CodeBuf) -> bool
     requires { fix.now.label.0 < length buf.now.labels }
     ensures { IsTrue result ↔ Leads buf.now fix.now }
@@ -47,7 +47,7 @@ fn leads(fix: &Fix, buf: &CodeBuf) -> bool
     }
 }
 
-/// Whether the code of items that stands at a place of a buffer leads to the labels that are bound, and may wait for the others.
+/// Returns whether the code of items that is at a place of a buffer leads to the labels that are bound, and may wait for the others.
 #[must_use]
 pub fn lead<L: Item>(items: &[L], place: u32, buf: &CodeBuf) -> bool
     requires instrs { Each L.is_item items.now }

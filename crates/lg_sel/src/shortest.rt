@@ -15,9 +15,9 @@ use crate::{Backend, ItemList, Reach, Site, lead};
 use lg_buf::CodeBuf;
 use lg_op::Node;
 
-/// Appends to none the items of a node with the shortest reach with which they lead to the labels that are bound, and may wait for the others, and tells
-/// that reach. Ahead, to a label that is not bound yet, it is the shortest of those from the one on that the buffer's size asks for. Only the longest is taken
-/// without a trial.
+/// Appends to none the items of a node with the shortest reach with which they lead to the labels that are bound, and may wait for the others, and returns
+/// that reach. Ahead, to a label that is not bound yet, it is the shortest of those from the one on that the buffer's size asks for. Only the longest is
+/// taken without a trial.
 ///
 /// The operands name labels of the buffer, and the items of each reach, where they have at most 64 instructions, can be appended to it.
 pub fn shortest_items<B: Backend>(

@@ -37,7 +37,7 @@ use Rattle.lg_sela_values.proofs.PatchLemmas.{are-holes}
 use Rattle.lg_sela_values.specs.Items.{a64_holes, IsItem, NamesOneOf, bytes_in, blanks, fixes_of, ones}
 use Rattle.lg_sela_values.specs.declared.items.Item.{Item}
 
--- behind an `.align` the place is a multiple of its number
+-- after an `.align` the place is a multiple of its number
 aligned : (reach : Reach) (node : Node) (site : Site) (place : ℕ) → InForm node → place % 4 ≡ 0 → IsAligned node (place + length (blanks (site_items reach node site place)))
 aligned reach node site place formed even n is xs =
     let made : Op → List Operand → List Item = λ o ys. site_items reach record { op = o; operands = ys; line = node.line } site place in

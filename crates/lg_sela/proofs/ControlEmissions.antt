@@ -78,7 +78,7 @@ idle-none : (k : ℕ) → NoneStores (idle k)
 idle-none zero = refl
 idle-none (suc k) = idle-none k
 
--- a `prolog` stores the link, FP, and so many others
+-- a `prolog` stores the link, FP, and this many others
 prolog-few : (saved frame homes : ℕ) → stores.stores_among a64_stores (prolog_code saved frame homes) ≤ 2 + length (home_registers homes) + saved
 prolog-few saved frame homes = by (is_near frame) (nat_lt (frame - 112) 4096)
   where

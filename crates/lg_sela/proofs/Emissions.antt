@@ -65,7 +65,7 @@ module _ (reach : Reach) (is : ℕ → Bool) where
   pub either : (f s : ℕ) (b : Bool) (xs ys : List Item) → Emits f s xs → Emits f s ys → Emits f s (if b then xs else ys)
   either f s b xs ys x y = emission.emits-if a64_holes a64_stores (Names reach is) f s b xs ys x y
 
-  -- instructions, of which at most so many store, and of which none does
+  -- instructions, at most this many of which store, and none of which does
   pub instructions : (f s : ℕ) (code : List Instr) → stores.stores_among a64_stores code ≤ s → Emits f s (ones code)
   instructions f s code few =
       more 0 f s s (ones code) (omega arith) (omega arith) (emission.emits-ones a64_holes a64_stores (Names reach is) One (λ to at i. refl) (λ place i. refl) (λ i. tt) s code few)
@@ -85,7 +85,7 @@ module _ (reach : Reach) (is : ℕ → Bool) where
   pub branch_if : (cond : Cond) (label : ℕ) → Names reach is (CondBranch cond label) → Emits 1 0 (CondBranch cond label ∷ [])
   branch_if cond label h = emission.emits-item a64_holes a64_stores (Names reach is) (CondBranch cond label) h (λ place. omega arith) (λ to at. omega arith)
 
-  -- with plain instructions in front of items, and behind them
+  -- with plain instructions in front of items, and after them
   pub front : (f s : ℕ) (code : List Instr) (ys : List Item) → NoneStores code → Emits f s ys → Emits f s (ones code ++ ys)
   front f s code ys h b = more (0 + f) f (0 + s) s (ones code ++ ys) (omega arith) (omega arith) (append 0 f 0 s (ones code) ys (plain 0 code h) b)
 

@@ -76,7 +76,7 @@ plain-code code trash c i n is t stays fit a =
     let to : ℕ → ℕ = slice_index c.addresses in
     subst (IsInCode code trash c i) (settled-ones to (c.place i) is) (items-are-in-code code trash c i (ones is) a (falls c i n (ones is) t stays) (fit.block to (c.place i)))
 
--- what is known of a node, of which the code begins at a place of the buffer
+-- what is known of a node whose code begins at a place of the buffer
 pub record IsKnown (c : Code) (i : ℕ) (n : Node) (frame homes saved : ℕ) (live : Reg → Bool) (staged : List Bool) (choices : List Choice) (labels place : ℕ) : Type 0 where
   pub node : IsNodeOf 4 n frame homes saved staged c i
   pub asked : IsAsked n live staged choices labels

@@ -171,8 +171,8 @@ branch-fixes r p xs sets holds l =
     ∙ ap (λ q. fixes_of q last) place ∙ lead-fixes r (p + 4 * length front) holds l
 
 -- ---- the branches
--- items of each reach that lead to a label, the first operand: instructions that do not count from their own place, of which the last sets the flags, and
--- what branches on a condition behind them
+-- items of each reach that lead to a label, the first operand: instructions that do not count from their own place, the last of which sets the flags, and
+-- what branches on a condition after them
 record IsBranchTo (xs : List Operand) (items : Reach → List Item) : Type 0 where
   first : List Instr
   sets : Instr

@@ -18,7 +18,7 @@ use Rattle.lg_sela.specs.Memory.VariableArgumentCode.{next_argument_code}
 use Rattle.lg_sela_values.specs.ValueItems.{value_items}
 use Rattle.lg_temp.specs.declared.choice.Choice.{Choice}
 
--- with this reach, in a function that reads so many homes, where frames save so many of V0, V1 and V2
+-- with this reach, in a function that reads this many homes, where frames save this many of V0, V1 and V2
 abbrev pub a64_families : ℕ → ℕ → Reach → Families Item
 a64_families homes saved reach = record {
   values = λ frame n choices. value_items n choices;
@@ -30,8 +30,8 @@ a64_families homes saved reach = record {
   control = λ o xs frame place. control_items reach o xs frame homes saved place;
 }
 
--- those of a node of a function with such a frame and so many homes, where frames save so many of V0, V1 and V2, with these choices, where these arguments
--- are staged and the code begins at a place
+-- those of a node of a function with such a frame and this many homes, where frames save this many of V0, V1 and V2, with these choices, where these
+-- arguments are staged and the code begins at a place
 abbrev pub node_items : ℕ → ℕ → Reach → Node → ℕ → List Choice → List Bool → ℕ → List Item
 node_items homes saved reach n frame choices staged place = families.node_items (a64_families homes saved reach) n frame choices staged place
 

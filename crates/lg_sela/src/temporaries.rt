@@ -8,8 +8,8 @@ ghost use Rattle.lg_temp.specs.Chosen.{is_named};
 use lg_op::{BinaryOp, LastOperand, Node, Op};
 use lg_temp::{Need, Needs};
 
-/// What the temporaries of a node's code need: one register that is any, at the remainders by an immediate, and none elsewhere. No need
-/// names a register.
+/// Returns what the temporaries of a node's code need: one register that is any, at the remainders by an immediate, and none elsewhere. No need names a
+/// register.
 pub fn needs(node: &Node) -> Needs
     ensures value { result ≡ value_needs node.now.op }
     ensures unnamed { (r : ℕ) → is_named result r ≡ false }

@@ -174,7 +174,7 @@ load-good t (operand.Label l) h = (h, tt)
 load-good t (operand.Reg r) h = tt
 load-good t (operand.Slot k) h = tt
 
--- code behind a word that is loaded
+-- code after a word that is loaded
 behind-good : (t : ℕ) (x : Operand) (is : List Instr) → Fine t → AreGood is → Each IsGoodItem (load_items t x ++ ones is)
 behind-good t x is h k = items-good (load_items t x) (ones is) (load-good t x h) (ones-good is k)
 

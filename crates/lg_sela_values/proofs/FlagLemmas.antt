@@ -25,7 +25,7 @@ pub double-not : (b : Bool) → not (not b) ≡ b
 double-not true = refl
 double-not false = refl
 
--- the conditions behind a comparison
+-- the conditions after a comparison
 module _ (x y : ℕ) (h : x < 2 ^ 64) (k : y < 2 ^ 64) where
   pub holds-lt : condition_holds cond.Lt (difference_flags x y 0) ≡ is_less_signed x y
   holds-lt = less-is x y h k

@@ -30,7 +30,7 @@ front-small bytes small i = ⊎_elim
     (λ ge. let e = get_or_past (take 4 bytes) i 0 (omega (arith, length-take 4 bytes)) in omega (arith, e))
     (cases_lt i 4)
 
--- the bytes from a place on are those of the word there, and those behind it
+-- the bytes from a place on are those of the word there, and those after it
 pub split-word : (bytes : List ℕ) (p : ℕ) → AreBytes bytes → p + 4 ≤ length bytes → drop p bytes ≡ to_le_bytes w32 (word_at bytes p) ++ drop (p + 4) bytes
 split-word bytes p small long =
     let front : List ℕ = take 4 (drop p bytes) in
@@ -39,7 +39,7 @@ split-word bytes p small long =
     let e : to_le_bytes w32 (word_at bytes p) ≡ front = le_bytes_4 front (word_at bytes p) l s (sym (word_is bytes p long)) in
     sym (take-append-drop 4 (drop p bytes)) ∙ (λ j. sym e j ++ drop-drop 4 p bytes j)
 
--- where the bytes of a word stand at a place, it is the word there
+-- where the bytes of a word are at a place, it is the word there
 pub record IsWordAt (bytes rest : List ℕ) (p n : ℕ) : Type 0 where
   pub long : p + 4 ≤ length bytes
   pub word : word_at bytes p ≡ n

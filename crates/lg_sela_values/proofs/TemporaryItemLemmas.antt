@@ -1,4 +1,4 @@
--- Remainders by an immediate, which stands in a temporary, are carried by their items.
+-- Remainders by an immediate, which is in a temporary, are carried by their items.
 use Rattle.std.proofs.Common.{◌≡◌, ◌≢◌, ℕ, ◌<◌, Bool, true, false, List, [], ◌∷◌, refl, sym, ap, ◌∙◌, subst, arith}
 use Rattle.std.specs.Prelude.{◌||◌, slice_index, slice_index_or}
 use Rattle.std.proofs.lemmas.Bool.{or_parts}

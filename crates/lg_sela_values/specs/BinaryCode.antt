@@ -16,7 +16,7 @@ use Rattle.lg_a64.specs.declared.instruction.Cond.TheVariants as cond
 use Rattle.lg_sela_values.specs.Processor.A64Rows.{link, zero_register}
 use Rattle.lg_sela_values.specs.Processor.Numbers.{number_code}
 
--- the condition that holds behind a comparison of two words where the test fails
+-- the condition that holds after a comparison of two words where the test fails
 abbrev pub failing : BinaryOp → Cond
 failing binary.Lt = cond.Ge
 failing binary.LtU = cond.Cs
@@ -36,7 +36,7 @@ test_code o d = Csinc d zero_register zero_register (failing o) ∷ []
 abbrev pub compared_code : BinaryOp → ℕ → ℕ → ℕ → List Instr
 compared_code o d a b = Reg row.Subs zero_register a b ∷ test_code o d
 
--- the quotient waits in the link, which holds nothing behind the `prolog`
+-- the quotient waits in the link, which holds nothing after the `prolog`
 abbrev pub remainder_code : RegOp → ℕ → ℕ → ℕ → List Instr
 remainder_code divide d a b = Reg divide link a b ∷ MulAdd Msub d link b a ∷ []
 
@@ -76,7 +76,7 @@ loaded_code o u d a v = number_code (second_register o u) v ++ register_code o d
 abbrev pub is_small : ℕ → Bool
 is_small v = nat_lt v 4096
 
--- the operations of which an instruction holds such a number
+-- the operations for which an instruction holds such a number
 abbrev pub takes_small : BinaryOp → Bool
 takes_small binary.Add = true
 takes_small binary.Sub = true
@@ -101,7 +101,7 @@ small_code binary.Addc d a v = Imm Addsi d a v false ∷ []
 small_code binary.Subc d a v = Imm Subsi d a v false ∷ []
 small_code o d a v = Imm Subsi zero_register a v false ∷ test_code o d
 
--- the operations of which one holds the negative of the number
+-- the operations for which one holds the negative of the number
 abbrev pub takes_negative : BinaryOp → Bool
 takes_negative binary.Add = true
 takes_negative binary.Sub = true
@@ -118,11 +118,11 @@ negative_form_code o u d a v =
 abbrev pub small_form_code : BinaryOp → ℕ → ℕ → ℕ → ℕ → List Instr
 small_form_code o u d a v = if takes_small o then (if is_small v then small_code o d a v else negative_form_code o u d a v) else loaded_code o u d a v
 
--- how many of the lowest bits of a number are ones, one behind the other
+-- how many of the lowest bits of a number are ones, one after the other
 unfoldable pub mask_width : ℕ → ℕ
 mask_width v = trailing_ones w64 v
 
--- a number that has no other bits, and not all 64: what it leaves of a word is a field of so many bits
+-- a number that has no other bits, and not all 64: what it leaves of a word is a field of this many bits
 abbrev pub is_mask : ℕ → Bool
 is_mask v = nat_lt 0 (mask_width v) && (nat_lt (mask_width v) 64 && (v == 2 ^ mask_width v - 1))
 

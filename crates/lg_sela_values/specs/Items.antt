@@ -38,7 +38,7 @@ blank (Branch op label) = instr.Branch op (pos 0) ∷ []
 blank (CondBranch cond label) = instr.BranchIf cond (pos 0) ∷ []
 blank (Address rd label) = instr.Wide Movz rd 0 0 ∷ instr.Wide Movk rd 0 1 ∷ []
 
--- how many words of 4 bytes the one address lies behind the other, where it lies whole words away
+-- how many words of 4 bytes the one address lies after the other, where it lies whole words away
 abbrev pub words_between : ℕ → ℕ → ℤ
 words_between from to = pos (to / 4) -ℤ pos (from / 4)
 
@@ -49,14 +49,14 @@ low_quarter a = a % 2 ^ 16
 abbrev pub next_quarter : ℕ → ℕ
 next_quarter a = a / 2 ^ 16 % 2 ^ 16
 
--- the instructions of an item that stands at an address, where the labels have these addresses
+-- the instructions of an item that is at an address, where the labels have these addresses
 abbrev pub settle : (ℕ → ℕ) → ℕ → Item → List Instr
 settle to at (One i) = i ∷ []
 settle to at (Branch op label) = instr.Branch op (words_between at (to label)) ∷ []
 settle to at (CondBranch cond label) = instr.BranchIf cond (words_between at (to label)) ∷ []
 settle to at (Address rd label) = instr.Wide Movz rd (low_quarter (to label)) 0 ∷ instr.Wide Movk rd (next_quarter (to label)) 1 ∷ []
 
--- the fix of an item that stands at a place of the buffer
+-- the fix of an item that is at a place of the buffer
 abbrev pub fix_of : ℕ → Item → List Fix
 fix_of place (One i) = []
 fix_of place (Branch op label) = record { place = place; kind = A64Branch26; label = record { 0 = label } } ∷ []
@@ -80,7 +80,7 @@ StaysWithin moves (Branch op label) = IsWithin moves (branch_destination op)
 StaysWithin moves (CondBranch cond label) = ⊤
 StaysWithin moves (Address rd label) = is_outside Aarch64 moves rd ≡ false
 
--- an item names one of so many labels, or none
+-- an item names one of n labels, or none
 abbrev pub NamesOneOf : ℕ → Item → Type 0
 NamesOneOf labels (One i) = ⊤
 NamesOneOf labels (Branch op label) = label < labels

@@ -13,7 +13,7 @@ use Rattle.lg_carry.specs.Values.Parts.{HaveSlots}
 use Rattle.lg_sela_values.specs.ValueItems.{value_needs, value_items}
 use Rattle.lg_carry.specs.Nodes.Operands.{NameBelow}
 
--- at most one register is chosen; the items are in the ranges of their instructions, of which there are at most 10, and each is followed by the next
+-- at most one register is chosen; the items are in the ranges of their instructions (at most 10), and each is followed by the next
 pub record AreValueItems (n : Node) (choices : List Choice) : Type 0 where
   pub few : length choices ≤ 1
   pub slots : HaveSlots choices

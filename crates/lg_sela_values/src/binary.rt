@@ -11,7 +11,7 @@ use lg_a64::{BitfieldOp, Cond, ImmOp, Instr, MulAddOp, RegOp};
 use lg_op::BinaryOp;
 use lg_sel::Items;
 
-// The condition that holds behind a comparison of two words where the test fails; of an operation that is no test it is that of `ne`.
+// Returns the condition that holds after a comparison of two words where the test fails; of an operation that is no test it is that of `ne`.
 fn failing(op: BinaryOp) -> Cond
     ensures { result ≡ failing op }
 {
@@ -101,14 +101,14 @@ fn loaded_code(op: BinaryOp, u: u8, d: u8, a: u8, value: u64, items: &mut Items<
     register_code(op, d, a, second, items);
 }
 
-// Whether a number has 12 bits.
+// Returns whether a number has 12 bits.
 fn is_small(value: u64) -> bool
     ensures { result ≡ is_small value }
 {
     value < 4096
 }
 
-// Whether an instruction of the operation holds such a number.
+// Returns whether an instruction of the operation holds such a number.
 fn takes_small(op: BinaryOp) -> bool
     ensures { result ≡ takes_small op }
 {
@@ -136,7 +136,7 @@ fn small_code(op: BinaryOp, d: u8, a: u8, value: u64, items: &mut Items<Item>)
     }
 }
 
-// Whether the other instruction holds the negative of a number.
+// Returns whether the other instruction holds the negative of a number.
 fn takes_negative(op: BinaryOp) -> bool
     ensures { result ≡ takes_negative op }
 {
@@ -191,7 +191,7 @@ fn small_form_code(op: BinaryOp, u: u8, d: u8, a: u8, value: u64, items: &mut It
     }
 }
 
-// How many of the lowest bits of a number are ones, one behind the other.
+// Returns how many of the lowest bits of a number are ones, one after the other.
 #[tactic(auto, unfolding(crate::specs::BinaryCode::mask_width))]
 fn mask_width(value: u64) -> u32
     ensures { result ≡ mask_width value }
@@ -199,7 +199,7 @@ fn mask_width(value: u64) -> u32
     value.trailing_ones()
 }
 
-// Whether a number has no other bits, and not all 64.
+// Returns whether a number has no other bits, and not all 64.
 fn is_mask(value: u64) -> bool
     ensures { result ≡ is_mask value }
 {

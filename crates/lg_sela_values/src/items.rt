@@ -19,7 +19,7 @@ pub enum Item {
 }
 
 impl Default for Item {
-    /// What stands in the places that are not used: the no-op.
+    /// What is in the places that are not used: the no-op.
     fn default() -> Item
         ensures { result ≡ Item.One Instr.Nop }
     {

@@ -3,14 +3,12 @@
 ghost use Rattle.lg_sela_values.specs.ValueFits.{ValueItemsStay, ValueItemsFit, ValueItemsName};
 ghost use Rattle.lg_sela_values.specs.ValueLaws.{ValueNodesCarry};
 
-/// Each node that computes a value, or two, is carried by its items, for all choices for its needs, whatever is live behind it and whatever is
-/// staged.
+/// Each node that computes a value, or two, is carried by its items, for all choices for its needs, whatever is live after it and whatever is staged.
 pub fn value_nodes_are_carried()
     ensures { ValueNodesCarry }
 {}
 
-/// The items of a node with choices for its needs are in the ranges of their instructions, of which there are at most 10, and each is followed
-/// by the next.
+/// The items of a node with choices for its needs are in the ranges of their instructions (at most 10), and each is followed by the next.
 pub fn value_items_fit()
     ensures { ValueItemsFit }
 {}

@@ -21,7 +21,7 @@ pub fn put_number(rd: u8, value: u64, items: &mut Items<Item>)
     }
 }
 
-// Whether the lowest quarter of a number is not 0, or no other is.
+// Returns whether the lowest quarter of a number is not 0, or no other is.
 fn is_low(value: u64) -> bool
     ensures { result ≡ is_low value }
 {
@@ -51,7 +51,7 @@ fn put_first(rd: u8, value: u64, items: &mut Items<Item>)
     put_quarter(rd, (value / 0x1_0000_0000_0000 % 0x1_0000) as u16, 3, items);
 }
 
-// From the second quarter on, or from the first behind it that is not 0.
+// From the second quarter on, or from the first after it that is not 0.
 fn put_upper(rd: u8, value: u64, items: &mut Items<Item>)
     requires { words_in items.old + 4 ≤ 64 }
     ensures { items.new ≡ items.old ++ ones (upper_code rd value) }

@@ -1,4 +1,4 @@
-// Instructions by their rows, those that save and restore a register, and the registers that stand for portable ones. Registers are 0 to 31.
+// Instructions by their rows, those that save and restore a register, and the registers that correspond to portable ones. Registers are 0 to 31.
 
 ghost use Rattle.std.specs.Prelude.{◌≡◌, ◌<◌, false};
 ghost use Rattle.lg_base.specs.declared.target.Target.TheVariants.{Aarch64};
@@ -10,7 +10,7 @@ use lg_base::Target;
 use lg_op::Reg;
 use lg_temp::Abi;
 
-/// The link, x30, which holds nothing that is needed behind a `prolog`.
+/// The link, x30, which holds nothing that is needed after a `prolog`.
 pub const LINK: u8 = 30;
 
 /// 31, which reads as 0 and is not written, but for the base of an address and where a number is added.
@@ -39,7 +39,7 @@ pub fn imm(op: ImmOp, rd: u8, rn: u8, imm: u16) -> Instr
     }
 }
 
-/// A number of 16 bits for quarter `hw`, 0 to 3, of `rd`.
+/// Returns a number of 16 bits for quarter `hw`, 0 to 3, of `rd`.
 pub fn wide(op: WideOp, rd: u8, imm: u16, hw: u8) -> Instr
     ensures { result ≡ Instr.Wide op rd imm hw }
 {
@@ -74,7 +74,7 @@ fn slot_offset(slot: u32) -> i32
     -96 - 8 * (slot as i32)
 }
 
-/// The instruction that saves a register in a spill slot of its frame, 0 to 4.
+/// Returns the instruction that saves a register in a spill slot of its frame, 0 to 4.
 pub fn save(reg: u8, slot: u32) -> Instr
     requires { slot < 5 }
     ensures { result ≡ Instr.Unscaled (UnscaledOp.Stur) reg frame_pointer (slot_offset slot) }
@@ -87,7 +87,7 @@ pub fn save(reg: u8, slot: u32) -> Instr
     }
 }
 
-/// The instruction that restores a register from a spill slot of its frame, 0 to 4.
+/// Returns the instruction that restores a register from a spill slot of its frame, 0 to 4.
 pub fn restore(reg: u8, slot: u32) -> Instr
     requires { slot < 5 }
     ensures { result ≡ Instr.Unscaled (UnscaledOp.Ldur) reg frame_pointer (slot_offset slot) }
@@ -100,7 +100,7 @@ pub fn restore(reg: u8, slot: u32) -> Instr
     }
 }
 
-/// The register that stands for a portable one, by the procedure call standard of AArch64.
+/// Returns the register that corresponds to a portable one, by the procedure call standard of AArch64.
 pub fn register_of(reg: Reg) -> u8
     ensures { result ≡ register_of Aarch64 reg }
 {

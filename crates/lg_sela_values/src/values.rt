@@ -15,7 +15,7 @@ use lg_op::{BinaryOp, Label, Node, Op, Operand, PlainOp, Reg, WideOp};
 use lg_sel::Items;
 use lg_temp::{Choice, Choices};
 
-// The register of an operand that is one, and else 0.
+// Returns the register of an operand that is one, and else 0.
 fn register_for(operand: Operand) -> u8
     ensures { result ≡ register_for Aarch64 operand }
 {

@@ -44,11 +44,11 @@ either-carries a b c h k l = grind (arith, h, k, l)
 either-borrows : (a b c : ℕ) → a < 2 ^ 64 → b < 2 ^ 64 → c < 2 → (is_less (sub_words a b) c || is_less a b) ≡ borrow_out a b c
 either-borrows a b c h k l = grind (arith, h, k, l)
 
--- ---- the carry or the borrow behind the operation
+-- ---- the carry or the borrow after the operation
 abbrev pub carry_behind : BinaryOp → ℕ → ℕ → ℕ → Bool
 carry_behind o a b c = if is_sum o then carry_out a b c else borrow_out a b c
 
--- the registers behind the code hold the word and the carry
+-- the registers after the code hold the word and the carry
 pub record HoldsWithCarry (o : BinaryOp) (d x y c : ℕ) (u : ℕ → ℕ) : Type 0 where
   pub value : u d ≡ value_with_carry o x y c
   pub carry : u 31 ≡ word_of_test (carry_behind o x y c)

@@ -67,7 +67,7 @@ taken-difference carry.Undefined bit w e h = cc
 taken-difference (carry.Sum b) bit w e h = cc
 taken-difference (carry.Difference b) bit w e h = let z : b ≡ bit = some-same b bit e in h ∙ ap word_of_test z
 
--- what is said of the registers behind the code, for the bit that is taken
+-- what is said of the registers after the code, for the bit that is taken
 pub record HoldsResult (o : BinaryOp) (d x y c : ℕ) (u : ℕ → ℕ) : Type 0 where
   pub value : u d ≡ value_with_carry o x y c
   pub carry : HoldsCarry Riscv64 u None (carry_made o x y c)

@@ -211,7 +211,7 @@ second-good (operand.Host name) = load-good 1 (operand.Host name) link-fine
 second-good (operand.Label l) = load-good 1 (operand.Label l) link-fine
 second-good (operand.Slot k) = load-good 1 (operand.Slot k) link-fine
 
--- code behind a word that is loaded
+-- code after a word that is loaded
 behind-good : (t : ℕ) (x : Operand) (is : List Instr) → Fine t → AreGood is → Each IsGoodItem (load_items t x ++ ones is)
 behind-good t x is h k = items-good (load_items t x) (ones is) (load-good t x h) (ones-good is k)
 

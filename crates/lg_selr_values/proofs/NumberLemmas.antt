@@ -82,7 +82,7 @@ words_behind xs is = words_append xs (ones is) ∙ ap (λ n. words_in xs + n) (w
 pub ones_behind : (xs : List Item) (is js : List Instr) → (xs ++ ones is) ++ ones js ≡ xs ++ ones (is ++ js)
 ones_behind xs is js = append_assoc xs (ones is) (ones js) ∙ ap (λ ys. xs ++ ys) (sym (ones-append is js))
 
--- behind what is above there is room for the low bits
+-- after what is above there is room for the low bits
 pub wide_room : (xs : List Item) (n rd v a : ℕ) → 0 < n → a ≡ above v → is_short v ≡ false → is_half v ≡ false → words_in xs + length (wide_code n rd v) ≤ 64
     → words_in (xs ++ ones (wide_code (n - 1) rd a)) + length (low_code rd v) ≤ 64
 wide_room xs n rd v a some is short half room =

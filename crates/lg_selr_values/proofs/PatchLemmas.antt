@@ -29,7 +29,7 @@ use Rattle.lg_selr_values.proofs.ItemWordLemmas.{split-word, IsWordAt, word-stan
 use Rattle.lg_sel.specs.Holes.{IsWithin, HaveAddresses, IsPatched, IsSettled}
 
 module _ (labels : List (Option ℕ)) (emitted finished : List ℕ) (to : ℕ → ℕ) (addresses : HaveAddresses labels to) (p : ℕ) where
-  -- the first word of what stands at a place, and what it has become
+  -- the first word of what is at a place, and what it has become
   record Word (q n : ℕ) (rest : List ℕ) : Type 0 where
     emitted_is : word_at emitted q ≡ n
     behind : drop (q + 4) emitted ≡ rest

@@ -1,4 +1,4 @@
--- Items that become the same instructions wherever they stand, and nodes that are carried by theirs.
+-- Items that become the same instructions wherever they are, and nodes that are carried by theirs.
 use Rattle.std.proofs.Common.{◌≡◌, ℕ, ◌+◌, ◌<◌, Bool, true, false, List, [], ◌∷◌, ◌++◌, refl, ap, ◌∙◌, subst}
 use Rattle.std.specs.Prelude.{slice_index, slice_index_or}
 use Rattle.lg_base.specs.declared.target.Target.TheVariants.{Riscv64}
@@ -31,7 +31,7 @@ use Rattle.lg_carry.specs.Nodes.Operands.{AreWords}
 use Rattle.lg_carry.specs.TextNodes.{IsInText}
 
 -- ---- items
--- items that become these instructions wherever they stand
+-- items that become these instructions wherever they are
 pub record Settles (to : ℕ → ℕ) (items : List Item) (is : List Instr) : Type 0 where
   pub become : (at : ℕ) → settled to at items ≡ is
 

@@ -57,12 +57,12 @@ all-turned a h = same_from_bits_below 64 (bit_xor a (2 ^ 64 - 1)) (complement a)
     (λ i lt. bit_at_xor a (2 ^ 64 - 1) i ∙ ap (λ z. (bit_at a i + z) % 2) (bit_at_ones 64 i lt) ∙ one-bit (bit_at a i) (bit-small a i) ∙ sym (bit_at_not w64 a i h lt))
 
 -- ---- the bytes of a word in the other order
--- so many further bytes of x behind those that y has
+-- this many further bytes of x after those that y has
 abbrev swapped_from : ℕ → ℕ → ℕ → ℕ
 swapped_from zero x y = y
 swapped_from (suc n) x y = swapped_from n (x / 256) (y * 256 + x / 256 % 256)
 
--- below this number, so many bytes more leave a word
+-- below this number, this many bytes more leave a word
 abbrev room_for : ℕ → ℕ
 room_for zero = 2 ^ 64
 room_for (suc n) = room_for n / 256
@@ -93,7 +93,7 @@ module _ (d : ℕ) (some : d ≢ 0) (link : d ≢ 1) (carry : d ≢ 31) where
   link-carry : ◌≢◌ {A = ℕ} 1 31
   link-carry = λ e. absurd (omega (arith, e))
 
-  -- the registers behind one further byte
+  -- the registers after one further byte
   behind-byte : (w : ℕ → ℕ) (x y : ℕ) → w 1 ≡ x → read w d ≡ y
       → computed (more_bytes_code d 1) w ≡ put (put (put (put w 1 (x / 256)) 31 (bit_and (x / 256) 255)) d (shifted_left y 8)) d (bit_or (shifted_left y 8) (bit_and (x / 256) 255))
   behind-byte w x y ex ey =

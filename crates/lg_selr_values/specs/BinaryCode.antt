@@ -10,7 +10,7 @@ use Rattle.lg_rv.specs.declared.instruction.ShiftOp.TheVariants.{Slli, Srli, Sra
 use Rattle.lg_rv.specs.declared.instruction.RegOp.TheVariants as row
 use Rattle.lg_selr_values.specs.Processor.Numbers.{low_part, number_code}
 
--- d = a op b; the operations that set the carry stand in CarryCode
+-- d = a op b; the operations that set the carry are in CarryCode
 abbrev pub register_code : BinaryOp → ℕ → ℕ → ℕ → List Instr
 register_code binary.Add d a b = Reg row.Add d a b ∷ []
 register_code binary.Sub d a b = Reg row.Sub d a b ∷ []
@@ -42,7 +42,7 @@ register_code o d a b = []
 abbrev pub is_addend : ℕ → Bool
 is_addend v = nat_lt ((v + 2047) % 2 ^ 64) 4095
 
--- any number is put into the link, which holds nothing behind the `prolog`
+-- any number is put into the link, which holds nothing after the `prolog`
 abbrev pub loaded_code : BinaryOp → ℕ → ℕ → ℕ → List Instr
 loaded_code o d a v = number_code 1 v ++ register_code o d a 1
 

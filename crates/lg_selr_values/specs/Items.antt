@@ -53,7 +53,7 @@ abbrev pub far_jump : ℕ → ℕ → ℕ → ℕ → List Instr
 far_jump rd base from to =
     instr.Upper Auipc base (high_part (distance from to)) ∷ instr.Imm Jalr rd base (low_part (distance from to)) ∷ []
 
--- the instructions of an item that stands at an address, where the labels have these addresses
+-- the instructions of an item that is at an address, where the labels have these addresses
 abbrev pub settle : (ℕ → ℕ) → ℕ → Item → List Instr
 settle to at (One i) = i ∷ []
 settle to at (Branch o rs1 rs2 label) = instr.Branch o rs1 rs2 (pos (to label) -ℤ pos at) ∷ []
@@ -61,7 +61,7 @@ settle to at (Jump rd label) = instr.Jal rd (pos (to label) -ℤ pos at) ∷ []
 settle to at (FarJump rd base label) = far_jump rd base at (to label)
 settle to at (Address rd label) = instr.Upper Lui rd (high_part (to label)) ∷ instr.Imm Addi rd rd (low_part (to label)) ∷ []
 
--- the fix of an item that stands at a place of the buffer
+-- the fix of an item that is at a place of the buffer
 abbrev pub fix_of : ℕ → Item → List Fix
 fix_of place (One i) = []
 fix_of place (Branch o rs1 rs2 label) = record { place = place; kind = RvBranch; label = record { 0 = label } } ∷ []
@@ -88,7 +88,7 @@ StaysWithin moves (Jump rd label) = is_outside Riscv64 moves rd ≡ false
 StaysWithin moves (FarJump rd base label) = (is_outside Riscv64 moves base ≡ false) × (is_outside Riscv64 moves rd ≡ false)
 StaysWithin moves (Address rd label) = is_outside Riscv64 moves rd ≡ false
 
--- an item names one of so many labels, or none
+-- an item names one of n labels, or none
 abbrev pub NamesOneOf : ℕ → Item → Type 0
 NamesOneOf labels (One i) = ⊤
 NamesOneOf labels (Branch o rs1 rs2 label) = label < labels

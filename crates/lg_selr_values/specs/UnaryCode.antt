@@ -12,12 +12,12 @@ use Rattle.lg_rv.specs.declared.instruction.ImmOp.TheVariants.{Addi, Xori, Andi,
 use Rattle.lg_rv.specs.declared.instruction.ShiftOp.TheVariants.{Slli, Srli, Srai}
 use Rattle.lg_rv.specs.declared.instruction.RegOp.TheVariants as row
 
--- so many further bytes of the word in the link, each behind those that d has
+-- this many further bytes of the word in the link, each after those that d has
 abbrev pub more_bytes_code : ℕ → ℕ → List Instr
 more_bytes_code d zero = []
 more_bytes_code d (suc n) = Shift Srli 1 1 8 ∷ Imm Andi 31 1 (pos 255) ∷ Shift Slli d d 8 ∷ Reg row.Or d d 31 ∷ more_bytes_code d n
 
--- the low byte of a, and so many further bytes
+-- the low byte of a, and this many further bytes
 abbrev pub swapped_code : ℕ → ℕ → ℕ → List Instr
 swapped_code d a n = Imm Addi 1 a (pos 0) ∷ Imm Andi d 1 (pos 255) ∷ more_bytes_code d n
 

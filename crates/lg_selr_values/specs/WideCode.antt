@@ -20,6 +20,6 @@ wide_code wide.MulU d e a b = waited_code row.Mulhu row.Mul e d a b
 wide_code wide.Div d e a b = waited_code row.Div row.Rem d e a b
 wide_code wide.DivU d e a b = waited_code row.Divu row.Remu d e a b
 
--- a number is put into the register of the carry, which is undefined behind the node
+-- a number is put into the register of the carry, which is undefined after the node
 abbrev pub wide_number_code : WideOp → ℕ → ℕ → ℕ → ℕ → List Instr
 wide_number_code o d e a v = number_code 31 v ++ wide_code o d e a 31

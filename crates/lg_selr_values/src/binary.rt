@@ -43,7 +43,7 @@ pub fn register_code(op: BinaryOp, d: u8, a: u8, b: u8, items: &mut Items<Item>)
     }
 }
 
-// Whether the signed view of a number is from -2,047 to 2,047.
+// Returns whether the signed view of a number is from -2,047 to 2,047.
 fn is_addend(value: u64) -> bool
     ensures { result ≡ is_addend value }
 {

@@ -18,12 +18,12 @@ pub enum Item {
         rs2: u8,
         label: u32,
     },
-    /// `jal`: a jump to the label, over up to 1 MiB, which leaves the address behind it in `rd`.
+    /// `jal`: a jump to the label, over up to 1 MiB, which leaves the address after it in `rd`.
     Jump {
         rd: u8,
         label: u32,
     },
-    /// `auipc` and `jalr`: a jump to the label, over any distance, by way of `base`, which leaves the address behind it in `rd`.
+    /// `auipc` and `jalr`: a jump to the label, over any distance, by way of `base`, which leaves the address after it in `rd`.
     FarJump {
         rd: u8,
         base: u8,
@@ -37,7 +37,7 @@ pub enum Item {
 }
 
 impl Default for Item {
-    /// What stands in the places that are not used: the no-op.
+    /// What is in the places that are not used: the no-op.
     fn default() -> Item
         ensures { result ≡ Item.One (Instr.Imm (ImmOp.Addi) 0 0 (pos 0)) }
     {

@@ -26,14 +26,14 @@ pub fn put_number(rd: u8, value: u64, items: &mut Items<Item>)
     }
 }
 
-/// Whether the signed view of a word is from -2,048 to 2,047, as the numbers of 12 bits are.
+/// Returns whether the signed view of a word is from -2,048 to 2,047, as the numbers of 12 bits are.
 pub fn is_short(value: u64) -> bool
     ensures { result ≡ is_short value }
 {
     value.wrapping_add(2048) < 4096
 }
 
-/// The low 12 bits of a word, with their sign: from -2,048 to 2,047.
+/// Returns the low 12 bits of a word, with their sign: from -2,048 to 2,047.
 pub fn low_part(value: u64) -> i32
     ensures { result ≡ low_part value }
 {
@@ -41,14 +41,14 @@ pub fn low_part(value: u64) -> i32
     if low < 2048 { low } else { low - 4096 }
 }
 
-/// The 20 bits above them, for `lui`, which make up for the sign: from 0 to 1,048,575.
+/// Returns the 20 bits above them, for `lui`, which make up for the sign: from 0 to 1,048,575.
 pub fn high_part(value: u64) -> u32
     ensures { result ≡ high_part value }
 {
     ((value % 0x1_0000_0000 + 2048) / 4096 % 0x10_0000) as u32
 }
 
-/// The word without its low 12 bits, which have a sign, 12 bits further down.
+/// Returns the word without its low 12 bits, which have a sign, 12 bits further down.
 fn above(value: u64) -> u64
     ensures { result ≡ above value }
 {

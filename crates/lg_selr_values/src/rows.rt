@@ -1,4 +1,4 @@
-// Instructions by their rows, those that save and restore a register, and the registers that stand for portable ones. Registers are 0 to 31.
+// Instructions by their rows, those that save and restore a register, and the registers that correspond to portable ones. Registers are 0 to 31.
 
 ghost use Rattle.std.specs.Prelude.{◌≡◌, ◌<◌};
 ghost use Rattle.lg_base.specs.declared.target.Target.TheVariants.{Riscv64};
@@ -13,7 +13,7 @@ use lg_temp::Abi;
 /// x0, which reads as 0 and is not written.
 pub const ZERO: u8 = 0;
 
-/// The link, x1, which holds nothing that is needed behind a `prolog`.
+/// The link, x1, which holds nothing that is needed after a `prolog`.
 pub const LINK: u8 = 1;
 
 /// The stack pointer, x2.
@@ -58,7 +58,7 @@ pub fn upper(op: UpperOp, rd: u8, imm: u32) -> Instr
     Instr::Upper { op, rd, imm }
 }
 
-/// A branch by an offset, an even number from -4,096 to 4,094, where the condition holds of two registers.
+/// Returns a branch by an offset, an even number from -4,096 to 4,094, where the condition holds of two registers.
 pub fn branch(op: BranchOp, rs1: u8, rs2: u8, offset: i32) -> Instr
     ensures { result ≡ Instr.Branch op rs1 rs2 offset }
 {
@@ -78,7 +78,7 @@ fn slot_offset(slot: u32) -> i32
     -96 - 8 * (slot as i32)
 }
 
-/// The instruction that saves a register in a spill slot of its frame, 0 to 4.
+/// Returns the instruction that saves a register in a spill slot of its frame, 0 to 4.
 pub fn save(reg: u8, slot: u32) -> Instr
     requires { slot < 5 }
     ensures { result ≡ Instr.Store (StoreOp.Sd) 8 reg (slot_offset slot) }
@@ -91,7 +91,7 @@ pub fn save(reg: u8, slot: u32) -> Instr
     }
 }
 
-/// The instruction that restores a register from a spill slot of its frame, 0 to 4.
+/// Returns the instruction that restores a register from a spill slot of its frame, 0 to 4.
 pub fn restore(reg: u8, slot: u32) -> Instr
     requires { slot < 5 }
     ensures { result ≡ Instr.Imm (ImmOp.Ld) reg 8 (slot_offset slot) }
@@ -99,7 +99,7 @@ pub fn restore(reg: u8, slot: u32) -> Instr
     imm(ImmOp::Ld, reg, FRAME_POINTER, slot_offset(slot))
 }
 
-/// The register that stands for a portable one, by the calling convention of RISC-V.
+/// Returns the register that corresponds to a portable one, by the calling convention of RISC-V.
 pub fn register_of(reg: Reg) -> u8
     ensures { result ≡ register_of Riscv64 reg }
 {

@@ -10,7 +10,7 @@ use lg_op::{UnaryOp, ValueType};
 use lg_rv::{ImmOp, RegOp, ShiftOp};
 use lg_sel::Items;
 
-// Appends the code that puts so many further bytes of the link behind those of `d`: 4 instructions for each, for which there is room.
+// Appends the code that puts this many further bytes of the link after those of `d`: 4 instructions for each, for which there is room.
 fn more_bytes_code(d: u8, n: u32, items: &mut Items<Item>)
     requires { words_in items.old + 4 * n ≤ 64 }
     ensures { items.new ≡ items.old ++ ones (more_bytes_code d n) }
@@ -26,8 +26,8 @@ fn more_bytes_code(d: u8, n: u32, items: &mut Items<Item>)
     }
 }
 
-// Appends the code that puts the low byte of `a` and so many further bytes into `d`, in the other order. There is room for 2 instructions and
-// 4 for each further byte.
+// Appends the code that puts the low byte of `a` and this many further bytes into `d`, in the other order. There is room for 2 instructions and 4 for each
+// further byte.
 #[tactic(auto, using(crate::proofs::EmissionLemmas::ones_twice))]
 fn swapped_code(d: u8, a: u8, n: u32, items: &mut Items<Item>)
     requires { words_in items.old + 2 + 4 * n ≤ 64 }

@@ -19,7 +19,7 @@ use lg_rv::ImmOp;
 use lg_sel::Items;
 use lg_temp::{Choice, Choices};
 
-// The register of an operand that is one, and else 0.
+// Returns the register of an operand that is one, and else 0.
 fn register_for(operand: Operand) -> u8
     ensures { result ≡ register_for Riscv64 operand }
 {

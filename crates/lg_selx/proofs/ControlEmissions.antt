@@ -102,7 +102,7 @@ return-none saved =
     stores.none-append x86_stores (restore_code saved) (instr.Bare Ret ∷ [])
     (stores.none-append x86_stores (restores saved) leave_code (keep-none (restores saved) (each-taken Keeps saved (restores 3) (refl, (refl, (refl, tt))))) refl) refl
 
--- a `prolog` stores FP and so many others
+-- a `prolog` stores FP and this many others
 prolog-few : (frame homes saved : ℕ) → stores.stores_among x86_stores (prolog_code saved frame homes) ≤ 1 + length (home_registers X86_64 homes) + saved
 prolog-few frame homes saved =
     let kept : List Instr = stores_below (kept_registers X86_64 saved) 2 in

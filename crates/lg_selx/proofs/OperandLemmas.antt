@@ -1,4 +1,4 @@
--- Operands of which none is a label.
+-- Operands none of which is a label.
 use Rattle.std.proofs.Common.{◌≡◌, false, List, [], ◌∷◌}
 use Rattle.std.specs.List.{list_any}
 use Rattle.std.proofs.lemmas.Bool.{or_parts}

@@ -136,7 +136,7 @@ plain-fixes Near p l = refl
 plain-fixes Far p l = refl
 
 -- ---- the branches
--- items of each reach that lead to a label, the first operand: instructions that do not count from their own place, and a jump on a condition behind them
+-- items of each reach that lead to a label, the first operand: instructions that do not count from their own place, and a jump on a condition after them
 record IsBranchTo (xs : List Operand) (items : Reach → List Item) : Type 0 where
   front : List Instr
   apart : Each Apart front

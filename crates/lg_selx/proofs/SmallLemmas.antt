@@ -72,7 +72,7 @@ code-small code n few most = let w = words-ones code in few-small (ones code) n 
 none-small : Small []
 none-small = omega arith
 
--- ---- alignments: so many bytes as no-ops
+-- ---- alignments: as many bytes as no-ops
 idle-bytes : (k : ℕ) → length (blanks (ones (idle k))) ≡ k
 idle-bytes zero = refl
 idle-bytes (suc k) = ap suc (idle-bytes k)

@@ -19,7 +19,7 @@ use Rattle.lg_selx.specs.Selected.{is_store}
 use Rattle.lg_selx_values.specs.ValueItems.{value_items}
 use Rattle.lg_temp.specs.declared.choice.Choice.{Choice}
 
--- with this reach, in a function that reads so many homes, where frames save so many of V0, V1 and V2
+-- with this reach, in a function that reads this many homes, where frames save this many of V0, V1 and V2
 abbrev pub x86_families : ℕ → ℕ → Reach → Families Item
 x86_families homes saved reach = record {
   values = value_items;
@@ -31,7 +31,7 @@ x86_families homes saved reach = record {
   control = λ o xs frame place. control_items reach o xs frame homes saved place;
 }
 
--- those of a node of a function with such a frame and so many homes, where frames save so many, with these choices, where these arguments are staged and
+-- those of a node of a function with such a frame and this many homes, where frames save this many, with these choices, where these arguments are staged and
 -- the code begins at a place
 abbrev pub node_items : ℕ → ℕ → Reach → Node → ℕ → List Choice → List Bool → ℕ → List Item
 node_items homes saved reach n frame choices staged place = families.node_items (x86_families homes saved reach) n frame choices staged place

@@ -27,8 +27,8 @@ fn store_needs(at: Addressing) -> Needs
     }
 }
 
-/// What the temporaries of a node's code need: rax and rdx at quotients, remainders and products in two words, rcx at shifts by a register,
-/// and one register that is any at stores whose address is no register; nothing elsewhere. Only stores ask for a register that is any.
+/// Returns what the temporaries of a node's code need: rax and rdx at quotients, remainders and products in two words, rcx at shifts by a register, and one
+/// register that is any at stores whose address is no register; nothing elsewhere. Only stores ask for a register that is any.
 pub fn needs(node: &Node) -> Needs
     ensures value { result ≡ needs node.now.op }
     ensures no_any { is_store node.now.op ≡ false → list_any is_any result ≡ false }

@@ -1,4 +1,4 @@
--- Rows that combine a register with a word, behind a move.
+-- Rows that combine a register with a word, after a move.
 use Rattle.std.proofs.Common.{◌≡◌, ◌≢◌, ℕ, ◌<◌, ◌^◌, Bool, true, false, List, [], ◌∷◌, Option, Some, refl, sym, ap, ◌∙◌}
 use Rattle.std.specs.Prelude.{◌==◌, if◌then◌else◌}
 use Rattle.std.specs.Option.{option_and_then}
@@ -29,7 +29,7 @@ alu-made op rm b c w f bytes kept given =
     ap (with_carry op rm b (scene w f bytes)) given
     ∙ ap (λ (k : Bool). Some (if k then scene w (alu_flags op f (w rm) b (bit c)) bytes else scene (put w rm (alu_value op (w rm) b (bit c))) (alu_flags op f (w rm) b (bit c)) bytes)) kept
 
--- behind a move, where the second register is another
+-- after a move, where the second register is another
 pub ordered-makes : (op : RmRegOp) (d a b : ℕ) (c : Bool) (w : ℕ → ℕ) (f : Flags) (bytes : ℕ → Option ℕ) → d ≢ b → is_kept_by op ≡ false → carry_for op (carry_of f) ≡ Some c
     → makes (ordered op d a b) (scene w f bytes) ≡ Some (scene (put w d (alu_value op (w a) (w b) (bit c))) (alu_flags op f (w a) (w b) (bit c)) bytes)
 ordered-makes op d a b c w f bytes ne kept given =

@@ -28,7 +28,7 @@ AreSaved [] = ⊤
 AreSaved (Spill r k ∷ choices) = Fine r × (k < 5) × AreSaved choices
 AreSaved (choice ∷ choices) = AreSaved choices
 
--- those that are behind others, of which there are few, for the needs that are left
+-- those that are after others (few), for the needs that are left
 pub record AreKept (needs : List Need) (choices : List Choice) : Type 0 where
   pub saved : AreSaved choices
   pub count : length choices ≡ length needs

@@ -1,4 +1,4 @@
--- Two results go from rax, 0, and rdx, 2, to their registers, and FP is made again behind them.
+-- Two results go from rax, 0, and rdx, 2, to their registers, and FP is made again after them.
 use Rattle.std.proofs.Common.{◌≡◌, ◌≢◌, ℕ, ◌-◌, Bool, true, false, refl, sym, ap, ◌∙◌}
 use Rattle.std.specs.Prelude.{◌==◌}
 use Rattle.lg_base.specs.Words.{add_words}
@@ -20,7 +20,7 @@ ends-other d e u r ne ne' = put-other (put u d (u 0)) e _ r ne' ∙ put-other u 
 abbrev pub remade : ℕ → ℕ → ℕ → (ℕ → ℕ) → ℕ → ℕ
 remade frame d e u = put (ends d e u) 5 (add_words (ends d e u 4) (frame - 16))
 
--- a register that the code behind w left, but for FP, is as it was
+-- a register that the code after w left, but for FP, is as it was
 pub remade-keeps : (frame d e : ℕ) → d ≢ 4 → e ≢ 4 → (w u : ℕ → ℕ) → add_words (w 4) (frame - 16) ≡ w 5 → u 4 ≡ w 4 → (r : ℕ) → r ≢ d → r ≢ e → (r ≢ 5 → u r ≡ w r) → remade frame d e u r ≡ w r
 remade-keeps frame d e d4 e4 w u pointer same r ne ne' left = by (r == 5) refl
   where

@@ -18,7 +18,7 @@ use Rattle.lg_x86.specs.declared.instruction.Instr.TheVariants.{Movi32}
 use Rattle.lg_selx_values.specs.Items.{move_size}
 
 -- ---- bytes that stay
--- a list that stands at a place, where its bytes are as they were
+-- a list that is at a place, where its bytes are as they were
 pub front-stays : (xs rest emitted finished : List ℕ) (p : ℕ) → length finished ≡ length emitted → drop p emitted ≡ xs ++ rest
     → ((i : ℕ) → p ≤ i → i < p + length xs → slice_index finished i ≡ slice_index emitted i) → drop p finished ≡ xs ++ drop (p + length xs) finished
 front-stays [] rest emitted finished p long e same = let z : p ≡ p + 0 = omega arith in ap (λ n. drop n finished) z
@@ -32,7 +32,7 @@ front-stays (x ∷ xs) rest emitted finished p long e same =
     let z : p + 1 + length xs ≡ p + length (x ∷ xs) = omega arith in
     drop_more finished p 0 (omega (arith, l, long)) ∙ (λ j. here j ∷ (behind ∙ ap (λ n. xs ++ drop n finished) z) j)
 
--- how far a list reaches that stands at a place
+-- how far a list reaches that is at a place
 pub reaches : (xs rest bytes : List ℕ) (p : ℕ) → 0 < length xs → drop p bytes ≡ xs ++ rest → p + length xs ≤ length bytes
 reaches xs rest bytes p some e = let d = length-drop p bytes in let a : length (drop p bytes) ≡ length xs + length rest = ap length e ∙ length-append xs rest in omega (arith, d, a, some)
 
@@ -43,7 +43,7 @@ front-small bytes small i = ⊎_elim
     (λ ge. let e = get_or_past (take 4 bytes) i 0 (omega (arith, length-take 4 bytes)) in omega (arith, e))
     (cases_lt i 4)
 
--- the bytes from a place on are those of the word there, and those behind it
+-- the bytes from a place on are those of the word there, and those after it
 pub split-word : (bytes : List ℕ) (p : ℕ) → AreBytes bytes → p + 4 ≤ length bytes → drop p bytes ≡ to_le_bytes w32 (word_at bytes p) ++ drop (p + 4) bytes
 split-word bytes p small long =
     let front : List ℕ = take 4 (drop p bytes) in
@@ -70,7 +70,7 @@ number-32 n h = by (nat_lt n 2147483648) refl
     by true e = let lt : n < 2147483648 = grind (arith, nat_tests) in (omega (arith, ints), omega (arith, ints, lt))
     by false e = let ge : 2147483648 ≤ n = grind (arith, nat_tests) in (omega (arith, ints, ge), omega (arith, ints))
 
--- the field of a distance holds the bytes of the number that stands in it
+-- the field of a distance holds the bytes of the number that is in it
 pub near-field : (bytes : List ℕ) (q : ℕ) (z : ℤ) → AreBytes bytes → q + 4 ≤ length bytes → signed 2147483648 (word_at bytes q) ≡ z → (drop q bytes ≡ long_bytes z ++ drop (q + 4) bytes) × IsNumber32 z
 near-field bytes q z small long e =
     let fits = word-small bytes q small in

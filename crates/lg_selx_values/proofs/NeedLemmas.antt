@@ -45,7 +45,7 @@ named-taken a needs (Only y ∷ left) made (Own r ∷ choices) x h e =
 named-taken a needs (Only y ∷ left) made (Spill r k ∷ choices) x h e =
     either-of (y == x) (is_named left x) e (λ f. inl (taken-first r y x (is_taken choices x) h.0.0 f)) (λ g. taken-later (r == x) (is_taken choices x) (stands_in a.target a.writes x) (named-taken a needs left (made ++ Spill r k ∷ []) choices x h.1 g))
 
--- what stands for a register of a set
+-- what corresponds to a register of a set
 pub record IsStoodFor (set : Reg → Bool) (x : ℕ) : Type 0 where
   pub register : Reg
   pub named : register ≢ Fp
@@ -91,6 +91,6 @@ named-apart n live staged needs choices x writes same h e free = by (named-taken
     by (inl k) = absurd (clash k free)
     by (inr k) = let s = stood-for (is_written n) x k in record { register = s.register; named = s.named; among = sym (same s.register) ∙ s.among; is = s.is }
 
--- the same register stands for it
+-- the same register corresponds to it
 pub same-register : (d p : Reg) → is_same d p ≡ true → register_of X86_64 d ≡ register_of X86_64 p
 same-register d p e = register-by-number d ∙ ap register-at (same-number d p e) ∙ sym (register-by-number p)

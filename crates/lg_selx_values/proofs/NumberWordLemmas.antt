@@ -72,7 +72,7 @@ module _ (frame d a v : ℕ) (q : Held) (d5 : d ≢ 5) (d4 : d ≢ 4) (small : v
   first : u5 d ≡ w a
   first = put-other u 5 v d d5 ∙ put-same w d (w a)
 
-  -- behind code that wrote d and rbp, FP is made again
+  -- after code that wrote d and rbp, FP is made again
   abbrev all : ℕ → ℕ → ℕ
   all z = put (put u5 d z) 5 (add_words (put u5 d z 4) (frame - 16))
 
@@ -88,7 +88,7 @@ module _ (frame d a v : ℕ) (q : Held) (d5 : d ≢ 5) (d4 : d ≢ 4) (small : v
           ap (all z) y ∙ ap (λ n. add_words n (frame - 16)) (put-other u5 d z 4 (λ f. d4 (sym f)) ∙ put-other w d (w a) 4 (λ f. d4 (sym f))) ∙ pointer ∙ ap w (sym y)
       by false e = put-other (put u5 d z) 5 _ x (apart x 5 e) ∙ put-other u5 d z x ne ∙ put-other u 5 v x (apart x 5 e) ∙ put-other w d (w a) x ne
 
-  -- the number is loaded behind a move
+  -- the number is loaded after a move
   loads : (rest : List Instr) (bytes : ℕ → Option ℕ) → makes (moved d a ++ (number_row 5 v ∷ rest)) (scene w q.flags bytes) ≡ makes rest (scene u5 q.flags bytes)
   loads rest bytes = moved-makes d a (number_row 5 v ∷ rest) w q.flags bytes ∙ ap (option_and_then (makes rest)) ((row-loads 5 v (omega arith) small).value (scene u q.flags bytes))
 

@@ -30,7 +30,7 @@ only-spelling : (i : Instr) → spellings spelling (i ∷ []) ≡ spelling i
 only-spelling i = append-nil (spelling i)
 
 module _ (labels : List (Option ℕ)) (emitted finished : List ℕ) (to : ℕ → ℕ) (addresses : HaveAddresses labels to) (p : ℕ) where
-  -- an instruction that stands in the finished bytes
+  -- an instruction that is in the finished bytes
   settles-as : (i : Instr) (n : ℕ) → IsInstr i → drop p finished ≡ spelling i ++ drop n finished → IsSettled spelling IsInstr finished p n (i ∷ [])
   settles-as i n ok e = record { stands = e ∙ ap (λ k. k ++ drop n finished) (sym (only-spelling i)); fit = All-cons IsInstr i [] ok (All-nil IsInstr) }
 

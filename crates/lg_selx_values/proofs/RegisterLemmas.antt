@@ -48,7 +48,7 @@ equal x y e = grind (arith, e)
 pub apart : (x y : ℕ) → (x == y) ≡ false → x ≢ y
 apart x y e = λ z. absurd (grind (arith, e, z))
 
--- code behind a move
+-- code after a move
 pub moved-makes : (d a : ℕ) (is : List Instr) (w : ℕ → ℕ) (f : Flags) (bytes : ℕ → Option ℕ) → makes (moved d a ++ is) (scene w f bytes) ≡ makes is (scene (put w d (w a)) f bytes)
 moved-makes d a is w f bytes = by (d == a) refl
   where
@@ -56,7 +56,7 @@ moved-makes d a is w f bytes = by (d == a) refl
     by true e = ap (λ g. makes is (scene g f bytes)) (sym (put-own w d (w a) (ap w (sym (equal d a e)))))
     by false e = refl
 
--- and a move behind code
+-- and a move after code
 pub moved-last : (d a : ℕ) (w : ℕ → ℕ) (f : Flags) (bytes : ℕ → Option ℕ) → makes (moved d a) (scene w f bytes) ≡ Some (scene (put w d (w a)) f bytes)
 moved-last d a w f bytes = by (d == a) refl
   where
@@ -64,7 +64,7 @@ moved-last d a w f bytes = by (d == a) refl
     by true e = ap (λ g. Some (scene g f bytes)) (sym (put-own w d (w a) (ap w (sym (equal d a e)))))
     by false e = refl
 
--- ---- registers that stand for portable ones
+-- ---- registers that correspond to portable ones
 pub register-not-frame : (d : Reg) → d ≢ Fp → register_of X86_64 d ≢ 5
 register-not-frame R0 h = λ e. absurd (omega (arith, e))
 register-not-frame R1 h = λ e. absurd (omega (arith, e))

@@ -47,7 +47,7 @@ pub saved_words : (xs : List Item) (choices : List Choice) (frame : ℕ) (o : Op
 saved_words xs choices frame o ys =
     let w = words_append xs (saved_items choices (body_items frame o ys)) in let s = saved-few choices (body_items frame o ys) in let b = body-few frame o ys in omega (arith, w, s, b)
 
--- the choices behind the first
+-- the choices after the first
 pub rest_slots : (choices : List Choice) → 1 ≤ length choices → HaveSlots choices → HaveSlots (take (length choices - 1) (drop 1 choices))
 rest_slots [] le h = absurd (omega (arith, le))
 rest_slots (choice ∷ choices) le h = subst HaveSlots (sym (take_all (length (choice ∷ choices) - 1) choices (omega arith))) (behind choice h)

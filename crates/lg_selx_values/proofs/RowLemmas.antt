@@ -68,7 +68,7 @@ rdx-fine = (omega arith, refl)
 pub rbp-fine : Fine 5
 rbp-fine = (omega arith, refl)
 
--- the fact holds of each instruction, of which there are at most n
+-- the fact holds of each instruction (at most n)
 pub record Holds (P : Instr → Type 0) (n : ℕ) (is : List Instr) : Type 0 where
   pub each : Each P is
   pub few : length is ≤ n

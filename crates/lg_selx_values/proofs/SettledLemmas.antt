@@ -1,4 +1,4 @@
--- Items that become the same instructions wherever they stand.
+-- Items that become the same instructions wherever they are.
 use Rattle.std.proofs.Common.{◌≡◌, ℕ, ◌+◌, List, [], ◌∷◌, ◌++◌, length, refl, ap, ◌∙◌}
 use Rattle.lg_x86.specs.Spelling.{spelling}
 use Rattle.lg_x86.specs.declared.instruction.Instr.{Instr}
@@ -12,7 +12,7 @@ use Rattle.lg_selx_values.specs.Items.{blanks, settled, ones}
 use Rattle.lg_selx_values.proofs.ItemLemmas.{settled-append, settled-ones}
 use Rattle.lg_selx_values.specs.ValueItems.{save, restore, saved_items}
 
--- items that become these instructions wherever they stand
+-- items that become these instructions wherever they are
 pub record Settles (to : ℕ → ℕ) (items : List Item) (is : List Instr) : Type 0 where
   pub become : (at : ℕ) → settled to at items ≡ is
 

@@ -76,7 +76,7 @@ module _ (frame : ℕ) (Q : Item → Type 0) (S : ℕ → Type 0) (h : HoldsOfRo
   ones-each [] k = tt
   ones-each (i ∷ is) k = (k.0, ones-each is k.1)
 
-  -- instructions, of which there are at most 8
+  -- instructions (at most 8)
   of : (n : ℕ) (is : List Instr) → n ≤ 8 → Holds P n is → Are 8 (ones is)
   of n is le k = let w = words-ones is in let f = k.few in record { each = ones-each is k.each; few = omega (arith, w, f, le) }
 

@@ -84,7 +84,7 @@ cond_of binary.GtU = cond.Above
 cond_of binary.Eq = cond.Equal
 cond_of o = cond.NotEqual
 
--- d = a op b; the operations that set the carry stand in CarryCode
+-- d = a op b; the operations that set the carry are in CarryCode
 abbrev pub register_code : BinaryOp → ℕ → ℕ → ℕ → ℕ → List Instr
 register_code binary.Add frame d a b = added d a b
 register_code binary.Sub frame d a b = difference d a b

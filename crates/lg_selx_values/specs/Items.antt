@@ -26,7 +26,7 @@ jump_by (NearIf cond) distance = instr.JumpIfNear cond distance
 jump_by Short distance = instr.JumpShort distance
 jump_by (ShortIf cond) distance = instr.JumpIfShort cond distance
 
--- how many bytes stand in front of the distance
+-- how many bytes are in front of the distance
 abbrev pub opcode_size : JumpKind → ℕ
 opcode_size (NearIf cond) = 2
 opcode_size kind = 1
@@ -44,7 +44,7 @@ fix_kind (NearIf cond) = X86Rel32
 fix_kind Short = X86Rel8
 fix_kind (ShortIf cond) = X86Rel8
 
--- how many bytes of a move of 32 bits stand in front of its number: registers 8 to 15 need a prefix
+-- how many bytes of a move of 32 bits are in front of its number: registers 8 to 15 need a prefix
 abbrev pub move_size : ℕ → ℕ
 move_size reg = if nat_lt reg 8 then 1 else 2
 
@@ -55,7 +55,7 @@ blank (One i) = i
 blank (Jump kind label) = jump_by kind (pos 0)
 blank (Address reg label) = instr.Movi32 reg 0
 
--- the instruction of an item that stands at an address, where the labels have these addresses
+-- the instruction of an item that is at an address, where the labels have these addresses
 abbrev pub settled_one : (ℕ → ℕ) → ℕ → Item → Instr
 settled_one to at (One i) = i
 settled_one to at (Jump kind label) = jump_by kind (pos (to label) -ℤ pos (at + jump_size kind))
@@ -64,7 +64,7 @@ settled_one to at (Address reg label) = instr.Movi32 reg (to label)
 abbrev pub settle : (ℕ → ℕ) → ℕ → Item → List Instr
 settle to at x = settled_one to at x ∷ []
 
--- the fix of an item that stands at a place of the buffer
+-- the fix of an item that is at a place of the buffer
 abbrev pub fix_of : ℕ → Item → List Fix
 fix_of place (One i) = []
 fix_of place (Jump kind label) = record { place = place + opcode_size kind; kind = fix_kind kind; label = record { 0 = label } } ∷ []
@@ -89,7 +89,7 @@ StaysWithin moves (One i) = WritesWithin moves i
 StaysWithin moves (Jump kind label) = WritesWithin moves (jump_by kind (pos 0))
 StaysWithin moves (Address reg label) = is_outside X86_64 moves reg ≡ false
 
--- an item names one of so many labels, or none
+-- an item names one of n labels, or none
 abbrev pub NamesOneOf : ℕ → Item → Type 0
 NamesOneOf labels (One i) = ⊤
 NamesOneOf labels (Jump kind label) = label < labels

@@ -1,4 +1,4 @@
--- Code of which some items are those of a node.
+-- Code, some items of which are those of a node.
 use Rattle.std.specs.Prelude.{◌≡◌, ℕ, ◌<◌, true, List, slice_get, slice_index}
 use Rattle.lg_carry.specs.Blocks.{IsBlock}
 use Rattle.lg_carry.specs.Carries.{leaps_at}
@@ -17,7 +17,7 @@ use Rattle.lg_selx_values.specs.Items.{x86_holes, IsItem, words_in, settled}
 abbrev pub AreOfNode : List ℕ → ℕ → Code → ℕ → List Item → Type 0
 AreOfNode code trash c i items = node_items.AreInCode x86_holes (x86_rows code trash) IsInstr WritesWithin IsItem trash c i items
 
--- they are the code of the node, of which a branch, jump, call or return has some
+-- they are the code of the node, and a branch, jump, call or return has some
 abbrev pub ItemsAreNodeCode : Type 0
 ItemsAreNodeCode =
     (code : List ℕ) (trash : ℕ) (c : Code) (i : ℕ) (items : List Item) → AreOfNode code trash c i items

@@ -34,7 +34,7 @@ use Rattle.lg_selx_values.specs.Needs.{value_needs}
 use Rattle.lg_selx_values.specs.UnaryCode.{unary_code, retval_code}
 use Rattle.lg_selx_values.specs.WideCode.{wide_code, wide_number_code}
 
--- a node whose registers for its needs are chosen, whatever is live behind it and whatever is staged, and whose code is this, with saves and restores
+-- a node whose registers for its needs are chosen, whatever is live after it and whatever is staged, and whose code is this, with saves and restores
 pub record IsChosen (code : List ℕ) (trash : ℕ) (c : Code) (i frame : ℕ) (n : Node) (live : Reg → Bool) (choices : List Choice)
     (body : List Instr) : Type 0 where
   pub staged : List Bool

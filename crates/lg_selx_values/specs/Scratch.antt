@@ -1,4 +1,4 @@
--- Code that spoils FP behind a `prolog` and makes it again: rbp, 5, is the stack pointer, rsp, 4, and the frame, less 16. `lea` changes no flag.
+-- Code that spoils FP after a `prolog` and makes it again: rbp, 5, is the stack pointer, rsp, 4, and the frame, less 16. `lea` changes no flag.
 use Rattle.std.specs.Prelude.{ℕ, ◌-◌, ◌==◌, if◌then◌else◌, pos, List, [], ◌∷◌}
 use Rattle.lg_x86.specs.declared.instruction.Instr.{Instr}
 use Rattle.lg_x86.specs.declared.instruction.Instr.TheVariants.{RmReg, Load}

@@ -14,8 +14,8 @@ use Rattle.lg_carry.specs.Values.Parts.{HaveSlots}
 use Rattle.lg_selx_values.specs.ValueItems.{value_items}
 use Rattle.lg_carry.specs.Nodes.Operands.{HaveWords, NameBelow}
 
--- at most two registers are chosen; the items are in the ranges of their instructions, of which there are at most 12, with at most 128 bytes in all, and
--- each is followed by the next
+-- at most two registers are chosen; the items are in the ranges of their instructions (at most 12), with at most 128 bytes in all, and each is followed by
+-- the next
 pub record AreValueItems (frame : ℕ) (n : Node) (choices : List Choice) : Type 0 where
   pub few : length choices ≤ 2
   pub slots : HaveSlots choices

@@ -61,7 +61,7 @@ wide_items o frame d e a x = []
 abbrev pub register_in : List Operand → ℕ → ℕ
 register_in xs i = register_for X86_64 (operand_in xs i)
 
--- those of an operation with its operands, in a function with a frame of so many bytes
+-- those of an operation with its operands, in a function with a frame of this many bytes
 abbrev pub body_items : ℕ → Op → List Operand → List Item
 body_items frame (op.Binary o last) xs = binary_items o frame (register_in xs 0) (register_in xs 1) (operand_in xs 2)
 body_items frame (op.Wide o last) xs = wide_items o frame (register_in xs 0) (register_in xs 1) (register_in xs 2) (operand_in xs 3)

@@ -32,7 +32,7 @@ abbrev pub AreUnlabelled : List Operand → Type 0
 AreUnlabelled [] = ⊤
 AreUnlabelled (x ∷ xs) = IsUnlabelled x × AreUnlabelled xs
 
--- the operations of which an operand may be a label
+-- the operations one of whose operands may be a label
 abbrev pub takes_label : Op → Bool
 takes_label (op.Plain plain.Movi) = true
 takes_label o = false

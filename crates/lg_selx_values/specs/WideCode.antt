@@ -10,7 +10,7 @@ use Rattle.lg_x86.specs.declared.instruction.BareOp.TheVariants.{Cqo}
 use Rattle.lg_selx_values.specs.Processor.Numbers.{number_row}
 use Rattle.lg_selx_values.specs.Scratch.{again}
 
--- rax before rdx, which stands for no operand
+-- rax before rdx, which corresponds to no operand
 abbrev pub results : ℕ → ℕ → List Instr
 results d e = RmReg alu.Mov d 0 ∷ RmReg alu.Mov e 2 ∷ []
 
@@ -21,7 +21,7 @@ wide_code wide.MulU frame d e a b = RmReg alu.Mov 2 b ∷ RmReg alu.Mov 0 a ∷ 
 wide_code wide.Div frame d e a b = RmReg alu.Mov 2 b ∷ RmReg alu.Mov 0 a ∷ RmReg alu.Mov 5 2 ∷ Bare Cqo ∷ Unary Idiv 5 ∷ (results d e ++ again frame)
 wide_code wide.DivU frame d e a b = RmReg alu.Mov 2 b ∷ RmReg alu.Mov 0 a ∷ RmReg alu.Mov 5 2 ∷ Movi32 2 0 ∷ Unary Div 5 ∷ (results d e ++ again frame)
 
--- that behind the move of the first word to rax
+-- that after the move of the first word to rax
 abbrev pub rest_code : WideOp → ℕ → ℕ → ℕ → ℕ → List Instr
 rest_code wide.Mul frame d e v = number_row 2 v ∷ (Unary Imul1 2 ∷ results d e)
 rest_code wide.MulU frame d e v = number_row 2 v ∷ (Unary Mul 2 ∷ results d e)

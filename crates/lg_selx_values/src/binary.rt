@@ -106,7 +106,7 @@ fn shifted(op: UnaryOp, d: u8, a: u8, b: u8, items: &mut Items<Item>)
     behind_move(d, a, &[one(op, d)], items);
 }
 
-// The high half of a dividend: the sign of rax, or 0.
+// Returns the high half of a dividend: the sign of rax, or 0.
 fn high_half(signed: bool) -> Instr
     ensures { result ≡ high_half signed }
 {
@@ -128,7 +128,7 @@ fn division(signed: bool, b: u8) -> Instr
     }
 }
 
-// Whether a register is rax or rdx, which a division takes.
+// Returns whether a register is rax or rdx, which a division takes.
 fn is_dividend(r: u8) -> bool
     ensures { result ≡ is_dividend r }
 {
@@ -159,7 +159,7 @@ fn divided(signed: bool, frame: u32, r: u8, d: u8, a: u8, b: u8, items: &mut Ite
     }
 }
 
-// The condition of a comparison; of an operation that is none it is that of `ne`.
+// Returns the condition of a comparison; of an operation that is none it is that of `ne`.
 fn cond_of(op: BinaryOp) -> Cond
     ensures { result ≡ cond_of op }
 {
@@ -203,8 +203,8 @@ pub(crate) fn register_code(op: BinaryOp, frame: u32, d: u8, a: u8, b: u8, items
     }
 }
 
-/// Appends the code of a row with a number, which stands in the instruction where 32 bits hold it, and else in rbp: at most 4 instructions, for
-/// which there is room.
+/// Appends the code of a row with a number, which is in the instruction where 32 bits hold it, and else in rbp: at most 4 instructions, for which there is
+/// room.
 #[tactic(auto, using(crate::proofs::EmissionLemmas::ones_twice, crate::proofs::EmissionLemmas::moved_words))]
 pub(crate) fn with_number(
     op: ImmOp,
@@ -228,7 +228,7 @@ pub(crate) fn with_number(
     }
 }
 
-// Whether `lea` makes the sum of `a` and a number for `d`: another register, and 32 bits.
+// Returns whether `lea` makes the sum of `a` and a number for `d`: another register, and 32 bits.
 fn is_near(d: u8, a: u8, value: u64) -> bool
     ensures { result ≡ is_near d a value }
 {

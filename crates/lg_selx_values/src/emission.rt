@@ -19,7 +19,7 @@ fn spell_one(instr: &Instr, bytes: &mut Bytes)
     bytes.extend(encode(instr).as_slice());
 }
 
-// How many bytes an instruction has.
+// Returns how many bytes an instruction has.
 fn size_of(instr: &Instr) -> u32
     requires { IsInstr instr.now }
     ensures { result ≡ length (spelling instr.now) }

@@ -33,7 +33,7 @@ pub enum Item {
 }
 
 impl Default for Item {
-    /// What stands in the places that are not used: the no-op.
+    /// What is in the places that are not used: the no-op.
     fn default() -> Item
         ensures { result ≡ Item.One (Instr.Bare Nop) }
     {
@@ -42,7 +42,7 @@ impl Default for Item {
 }
 
 impl JumpKind {
-    // The instruction, with 0 in its distance.
+    // Returns the instruction, with 0 in its distance.
     fn blank(self) -> Instr
         ensures { result ≡ jump_by self (pos 0) }
     {
@@ -54,7 +54,7 @@ impl JumpKind {
         }
     }
 
-    /// How many bytes stand in front of the distance: 1 or 2.
+    /// Returns how many bytes are in front of the distance: 1 or 2.
     pub fn opcode_size(self) -> u32
         ensures { result ≡ opcode_size self }
     {
@@ -64,7 +64,7 @@ impl JumpKind {
         }
     }
 
-    /// The kind of the fix of the distance.
+    /// Returns the kind of the fix of the distance.
     pub fn fix_kind(self) -> FixKind
         ensures { result ≡ fix_kind self }
     {
@@ -76,7 +76,7 @@ impl JumpKind {
 }
 
 impl Item {
-    /// The instruction, with 0 in the field of a label.
+    /// Returns the instruction, with 0 in the field of a label.
     pub fn blank(&self) -> Instr
         ensures { result ≡ blank self.now }
     {
@@ -88,7 +88,7 @@ impl Item {
     }
 }
 
-/// How many bytes of a move of 32 bits stand in front of its number: 1 or 2.
+/// Returns how many bytes of a move of 32 bits are in front of its number: 1 or 2.
 pub fn move_size(reg: u8) -> u32
     ensures { result ≡ move_size reg }
 {

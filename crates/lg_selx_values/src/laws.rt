@@ -24,7 +24,7 @@ pub fn wide_pairs_are_made()
     ensures { WidePairsAreMade }
 {}
 
-/// A node of two registers that sets no carry is carried, for all choices for its needs, whatever is live behind it and whatever is staged.
+/// A node of two registers that sets no carry is carried, for all choices for its needs, whatever is live after it and whatever is staged.
 pub fn binary_registers_are_carried()
     ensures { BinaryRegistersCarry }
 {}
@@ -89,8 +89,7 @@ pub fn wide_numbers_are_carried()
     ensures { WideNumbersCarry }
 {}
 
-/// Each node that computes a value, or two, is carried by its items, for all choices for its needs, whatever is live behind it and whatever is
-/// staged.
+/// Each node that computes a value, or two, is carried by its items, for all choices for its needs, whatever is live after it and whatever is staged.
 pub fn value_nodes_are_carried()
     ensures { ValueNodesCarry }
 {}
@@ -100,8 +99,8 @@ pub fn choices_have_slots()
     ensures { ChoicesHaveSlots }
 {}
 
-/// The items of a node with choices for its needs are in the ranges of their instructions, of which there are at most 12, with at most 128 bytes,
-/// and each is followed by the next.
+/// The items of a node with choices for its needs are in the ranges of their instructions (at most 12), with at most 128 bytes, and each is followed by the
+/// next.
 pub fn value_items_fit()
     ensures { ValueItemsFit }
 {}

@@ -10,7 +10,7 @@ use crate::{Item, half_number, mov, put_number};
 use lg_sel::Items;
 use lg_x86::{BareOp, ImmOp, Instr, LoadOp, RegRmOp, UnaryOp};
 
-/// rbp, which stands for FP. Code may spoil it and make it again.
+/// rbp, which corresponds to FP. Code may spoil it and make it again.
 pub(crate) const SCRATCH: u8 = 5;
 
 /// rax, where quotients and products come out.
@@ -79,7 +79,7 @@ pub(crate) fn moved(d: u8, a: u8, items: &mut Items<Item>)
     }
 }
 
-/// Appends instructions behind such a move. There is room for them and for the move.
+/// Appends instructions after such a move. There is room for them and for the move.
 #[tactic(auto, using(crate::proofs::EmissionLemmas::ones_twice, crate::proofs::EmissionLemmas::moved_words))]
 pub(crate) fn behind_move(d: u8, a: u8, rest: &[Instr], items: &mut Items<Item>)
     requires { words_in items.old + length rest.now + 1 ≤ 64 }
@@ -89,7 +89,7 @@ pub(crate) fn behind_move(d: u8, a: u8, rest: &[Instr], items: &mut Items<Item>)
     items.all(rest);
 }
 
-/// Appends instructions behind one that loads a number into `t`. There is room for them.
+/// Appends instructions after one that loads a number into `t`. There is room for them.
 #[tactic(auto, using(crate::proofs::EmissionLemmas::ones_after, crate::proofs::EmissionLemmas::one_words))]
 pub(crate) fn behind_number(t: u8, value: u64, rest: &[Instr], items: &mut Items<Item>)
     requires { words_in items.old + length rest.now + 1 ≤ 64 }

@@ -18,7 +18,7 @@ pub fn put_number(reg: u8, value: u64, items: &mut Items<Item>)
     items.one(number_row(reg, value));
 }
 
-// The shortest of three moves.
+// Returns the shortest of three moves.
 fn number_row(reg: u8, value: u64) -> Instr
     ensures { result ≡ number_row reg value }
 {
@@ -37,7 +37,7 @@ fn number_row(reg: u8, value: u64) -> Instr
     }
 }
 
-/// The signed view of a word, which has 32 bits.
+/// Returns the signed view of a word, which has 32 bits.
 pub fn half_number(value: u64) -> i32
     requires { is_half value ≡ true }
     ensures { result ≡ signed_view value }

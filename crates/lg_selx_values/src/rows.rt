@@ -1,4 +1,4 @@
-// Instructions by their rows, those that save and restore a register, and the registers that stand for portable ones. Registers are 0 to 15.
+// Instructions by their rows, those that save and restore a register, and the registers that correspond to portable ones. Registers are 0 to 15.
 
 ghost use Rattle.std.specs.Prelude.{◌≡◌, ◌<◌};
 ghost use Rattle.lg_base.specs.declared.target.Target.TheVariants.{X86_64};
@@ -51,7 +51,7 @@ fn slot_offset(slot: u32) -> i32
     -96 - 8 * (slot as i32)
 }
 
-/// The instruction that saves a register in a spill slot of its frame, 0 to 4.
+/// Returns the instruction that saves a register in a spill slot of its frame, 0 to 4.
 pub fn save(reg: u8, slot: u32) -> Instr
     requires { slot < 5 }
     ensures { result ≡ Instr.Store (StoreOp.St64) 5 (slot_offset slot) reg }
@@ -64,7 +64,7 @@ pub fn save(reg: u8, slot: u32) -> Instr
     }
 }
 
-/// The instruction that restores a register from a spill slot of its frame, 0 to 4.
+/// Returns the instruction that restores a register from a spill slot of its frame, 0 to 4.
 pub fn restore(reg: u8, slot: u32) -> Instr
     requires { slot < 5 }
     ensures { result ≡ Instr.Load (LoadOp.Ld64) reg 5 (slot_offset slot) }
@@ -77,7 +77,7 @@ pub fn restore(reg: u8, slot: u32) -> Instr
     }
 }
 
-/// The register that stands for a portable one, by the calling convention of x86-64.
+/// Returns the register that corresponds to a portable one, by the calling convention of x86-64.
 pub fn register_of(reg: Reg) -> u8
     ensures { result ≡ register_of X86_64 reg }
 {

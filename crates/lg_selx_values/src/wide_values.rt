@@ -52,7 +52,7 @@ pub(crate) fn wide_code(op: WideOp, frame: u32, d: u8, e: u8, a: u8, b: u8, item
     }
 }
 
-// Appends the code behind the move of the dividend or factor to rax: at most 6 instructions, for which there is room.
+// Appends the code after the move of the dividend or factor to rax: at most 6 instructions, for which there is room.
 fn rest_code(op: WideOp, frame: u32, d: u8, e: u8, value: u64, items: &mut Items<Item>)
     requires low { 272 ≤ frame }
     requires high { frame ≤ 65808 }

@@ -14,6 +14,6 @@ node op operands line = record { op = op; operands = operands; line = line }
 abbrev pub format : List ℕ
 format = codes "%ld\n\0"
 
--- no label is bound behind the end of that data part
+-- no label is bound after the end of that data part
 abbrev pub AreInside : LabelledNodes → Type 0
 AreInside l = (x k : ℕ) → slice_get l.places x ≡ Some (Some (place.Image k)) → k ≤ length format

@@ -2,15 +2,15 @@
 
 use lg_node::Label;
 
-/// A block of which the end is not read yet, with the labels that are bound or named there.
+/// A block whose end is not read yet, with the labels that are bound or named there.
 #[derive(Clone, Copy)]
 pub(crate) enum Block {
-    /// Behind `if`, or behind its `else`: where the run goes on behind the block.
+    /// After `if`, or after its `else`: where the run continues after the block.
     If { behind: Label },
-    /// Behind `else`.
+    /// After `else`.
     Else { behind: Label },
-    /// Behind `while`: where the condition begins.
+    /// After `while`: where the condition begins.
     While { again: Label },
-    /// Behind `do`: where the condition begins, and where the run goes on behind the block.
+    /// After `do`: where the condition begins, and where the run continues after the block.
     Do { again: Label, behind: Label },
 }

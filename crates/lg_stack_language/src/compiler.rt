@@ -29,7 +29,7 @@ struct Variable<'a> {
     offset: u64,
 }
 
-// The operation that a word stands for.
+// Returns the operation that a word denotes.
 fn operation_of(word: &str) -> Option<BinaryOp> {
     match word {
         "+" => Some(BinaryOp::Add),
@@ -62,7 +62,7 @@ impl<'a> Compiler<'a> {
         }
     }
 
-    // The function of a name.
+    // Returns the function of a name.
     fn function(&self, name: &str) -> Option<Function<'a>> {
         for function in &self.functions {
             if function.name == name {
@@ -82,7 +82,7 @@ impl<'a> Compiler<'a> {
         None
     }
 
-    // Makes a function known; one that is known already has so many arguments.
+    // Makes a function known; one that is known already has this many arguments.
     fn declare(&mut self, function: Function<'a>) -> Result<(), CompileError> {
         match self.function(function.name) {
             None => Ok(self.functions.push(function)?),
@@ -277,7 +277,7 @@ impl<'a> Compiler<'a> {
     }
 }
 
-// The unit of a text, where its nodes are made.
+// Returns the unit of a text, where its nodes are made.
 fn unit_of(alloc: Global, emitter: Emitter) -> Result<Unit, Fault>
     ensures inside { IfOk result (λ u. AreInside u.nodes) }
     ensures image { IfOk result (λ u. u.image ≡ format) }

@@ -48,7 +48,7 @@ impl Emitter {
         }
     }
 
-    /// The nodes.
+    /// Returns the nodes.
     pub fn into_nodes(self) -> NodeList
         ensures { AreInside result }
     {
@@ -61,12 +61,12 @@ impl Emitter {
         self.line = self.line.saturating_add(1);
     }
 
-    /// The line of the nodes that come next.
+    /// Returns the line of the nodes that come next.
     pub fn line(&self) -> u32 {
         self.line
     }
 
-    /// Whether no value waits.
+    /// Returns whether no value waits.
     pub fn is_empty(&self) -> bool {
         self.values == 0
     }
@@ -128,7 +128,7 @@ impl Emitter {
         self.load(place)
     }
 
-    // R0 becomes what stands at an offset from FP.
+    // R0 becomes what is at an offset from FP.
     fn load(&mut self, offset: u64) -> Result<(), CompileError> {
         self.put(
             Op::Load(ValueType::Long, Addressing::RegisterImmediate),
@@ -205,13 +205,13 @@ impl Emitter {
         )
     }
 
-    // What the call gives back, which comes directly behind it.
+    // What the call gives back, which comes directly after it.
     fn result(&mut self) -> Result<(), CompileError> {
         self.put(Op::Retval(ValueType::Long), &[R0])?;
         self.put_value()
     }
 
-    /// Calls a function with so many of the topmost values, in whose places its result comes.
+    /// Calls a function with this many of the topmost values, in whose places its result comes.
     pub fn call(&mut self, label: Label, arguments: u32) -> Result<(), CompileError> {
         let least = self
             .values
@@ -287,7 +287,7 @@ impl Emitter {
         self.put(Op::Plain(PlainOp::Epilog), &[])
     }
 
-    // The label of the format by which values are printed stands at the first byte of the data part.
+    // The label of the format by which values are printed is at the first byte of the data part.
     fn bind_format(&mut self) -> Result<(), CompileError> {
         self.format = self.writer.fresh()?;
         let _ = self.writer.bind_format(self.format);

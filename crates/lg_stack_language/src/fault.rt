@@ -7,7 +7,7 @@ use thiserror::Error;
 /// What is wrong with a word.
 #[derive(Clone, Copy, Debug, PartialEq, Eq, Error)]
 pub enum CompileError {
-    /// It is no word of the language, no number up to 2^64 - 1, and no name of a local or of a function that stands before it.
+    /// It is no word of the language, no number up to 2^64 - 1, and no name of a local or of a function that is before it.
     #[error("unknown word")]
     UnknownWord,
     /// It takes more values than there are.
@@ -19,7 +19,7 @@ pub enum CompileError {
     /// Values wait where a block begins, turns or ends.
     #[error("values are left")]
     ValuesLeft,
-    /// It ends or turns a block that is not open, or stands outside of functions, or defines one within another.
+    /// It ends or turns a block that is not open, or is outside of functions, or defines one within another.
     #[error("out of place")]
     OutOfPlace,
     /// The text ends within a function.

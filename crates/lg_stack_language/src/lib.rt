@@ -1,5 +1,5 @@
-//! A small language of functions on a stack of values, as code that a runtime compiles: each word of a text becomes some nodes. A function has arguments
-//! and locals by names; there are `if`, `while` and calls, of the function itself too. Words of a line stand apart by spaces.
+//! A small language of functions on a stack of values, as code that a runtime compiles: each word of a text becomes some nodes. A function has arguments and
+//! locals by names; there are `if`, `while` and calls, of the function itself too. Words of a line are apart by spaces.
 #![tactic(auto)]
 
 mod block;

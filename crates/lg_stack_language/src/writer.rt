@@ -13,7 +13,7 @@ use std::marker::Model;
 // The most nodes and labels of a unit.
 const MOST: u32 = 1_048_576;
 
-/// Nodes, of which no label is bound behind the end of the data part.
+/// Nodes, no label of which is bound after the end of the data part.
 #[derive(Drop)]
 pub(crate) struct Writer {
     nodes: NodeList,
@@ -69,7 +69,7 @@ impl Writer {
         label.0 < self.nodes.labels() && self.nodes.bind(label, Place::Image(0))
     }
 
-    /// The list of the nodes.
+    /// Returns the list of the nodes.
     pub fn into_nodes(self) -> NodeList
         ensures value { result ≡ self }
         ensures inside { AreInside result }

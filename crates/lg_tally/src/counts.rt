@@ -1,4 +1,4 @@
-// Cases that agree with what is wanted of them, and cases that differ.
+// Cases that agree with what is expected of them, and cases that differ.
 
 ghost use Rattle.std.specs.Prelude.{◌≡◌, IfOk};
 ghost use Rattle.lg_tally.specs.Counts.{Differing, counted};
@@ -7,10 +7,10 @@ use crate::one_more::count;
 use std::alloc::{AllocError, Global};
 use std::io;
 
-// so many cases that differ are printed of a list
+// this many cases that differ are printed of a list
 const SHOWN: u64 = 20;
 
-/// Whether a case agrees, and else what was found in place of what is wanted.
+/// Whether a case agrees, and else what was found in place of what is expected.
 #[derive(Drop)]
 pub enum Outcome {
     Agrees,
@@ -18,7 +18,7 @@ pub enum Outcome {
 }
 
 impl Outcome {
-    /// The outcome of a case whose line is not of the form.
+    /// Returns the outcome of a case whose line is not of the form.
     pub fn unread(alloc: Global) -> Result<Outcome, AllocError>
         ensures { IfOk result Differing }
     {
@@ -74,7 +74,7 @@ impl Counts {
         }
     }
 
-    /// Prints the counts, behind the list's name.
+    /// Prints the counts, after the list's name.
     pub fn print(self, rt: &impl Print, list: &str) -> io::Result<()> {
         let Counts { agree, differ } = self;
         if differ == 0 {

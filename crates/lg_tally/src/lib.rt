@@ -1,4 +1,4 @@
-//! Counts of what cases come to, and numbers by a fixed generator, for programs that try many.
+//! Counts of the outcomes of cases, and numbers by a fixed generator, for programs that try many.
 #![tactic(auto)]
 
 mod counts;

@@ -53,7 +53,7 @@ picked : (a : Around) (needs : List Need) (made : List Choice) (need : Need) (ch
 picked a needs made Any choice e = picked-any a needs made choice e
 picked a needs made (Only r) choice e = subst (IsFor a needs made (Only r)) (same_Some (pick_only a made r) choice e) (picked-only a needs made r)
 
--- the choices behind those that are made
+-- the choices after those that are made
 chosen-behind : (a : Around) (needs left : List Need) (made choices : List Choice) → chosen a needs left made ≡ Some choices → (rest : List Choice) × (choices ≡ made ++ rest) × AreFor a needs made left rest
 chosen-behind a needs [] made choices e = ([], sym (same_Some made choices e) ∙ sym (append-nil made), tt)
 chosen-behind a needs (need ∷ left) made choices e = by (pick a needs made need) refl e (λ choice. chosen-behind a needs left (made ++ choice ∷ []) choices)

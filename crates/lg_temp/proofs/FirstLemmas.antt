@@ -45,7 +45,7 @@ first-picked : (a : Around) (needs : List Need) (made : List Choice) (need : Nee
 first-picked a needs made Any choice e = first-any a needs made choice e
 first-picked a needs made (Only r) choice e = tt
 
--- the choices behind those that are made
+-- the choices after those that are made
 first-behind : (a : Around) (needs left : List Need) (made choices : List Choice) → chosen a needs left made ≡ Some choices → (rest : List Choice) × (choices ≡ made ++ rest) × AreFirst a needs made left rest
 first-behind a needs [] made choices e = ([], sym (same_Some made choices e) ∙ sym (append-nil made), tt)
 first-behind a needs (need ∷ left) made choices e = by (pick a needs made need) refl e (λ choice. first-behind a needs left (made ++ choice ∷ []) choices)

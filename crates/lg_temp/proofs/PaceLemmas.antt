@@ -35,7 +35,7 @@ module _ {P Q : Type 0} (portable : Machine P) (processor : Machine Q) (Alike : 
     out : processor.out (q-at n) ≡ portable.out (p-at k)
     alike : Alike (p-at k) (q-at n)
 
-  -- how both stand after k and n steps
+  -- how both are after k and n steps
   abbrev Both : ℕ → ℕ → Type 0
   Both k n = (portable.status (p-at k) ≡ Bad) ⊎ (HaveEnded k n ⊎ stands (p-at k) (q-at n))
 
@@ -106,7 +106,7 @@ module _ {P Q : Type 0} (portable : Machine P) (processor : Machine Q) (Alike : 
     alike = λ k fine. (same-at k (walk k).0 (walk k).1 fine).1;
   }
 
--- where the processor has ended, both stand as they do at the meaning's end
+-- where the processor has ended, both are as they are at the meaning's end
 pub ends-alike : {P Q : Type 0} (portable : Machine P) (processor : Machine Q) (Alike : P → Q → Type 0) (nodes : ℕ) (p : P) (q : Q) → IsMachine processor
     → ((n : ℕ) → AgreesAt portable processor nodes p q n) → KeepsPace portable processor Alike p q → EndsAlike portable processor Alike p q
 ends-alike portable processor Alike nodes p q is-q agrees paced n status ended =

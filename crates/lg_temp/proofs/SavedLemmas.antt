@@ -36,7 +36,7 @@ unfolding hits bit
 hits-none [] = refl
 hits-none (x ∷ xs) = omega (arith, hits-none xs)
 
--- where each thing is at one register at most, so many things are at as many registers at most
+-- where each thing is at one register at most, this many things are at as many registers at most
 hits-any : {A : Type 0} (f : ℕ → A → Bool) (xs : List ℕ) → ((a : A) → hits (λ x. f x a) xs ≤ 1) → (things : List A) → hits (λ x. list_any (f x) things) xs ≤ length things
 hits-any f xs one [] = omega (arith, hits-none xs)
 hits-any f xs one (a ∷ things) = omega (arith, hits-or (λ x. f x a) (λ x. list_any (f x) things) xs, one a, hits-any f xs one things)
@@ -62,7 +62,7 @@ off : (b : Bool) → (b && false) ≡ false
 off true = refl
 off false = refl
 
--- none of them stands for a portable register
+-- none of them corresponds to a portable register
 none_stands : (target : Target) (set : Reg → Bool) → hits (stands_in target set) (six target) ≡ 0
 unfolding hits bit six
 none_stands X86_64 set = simp off
@@ -82,7 +82,7 @@ unfolding hits bit
 all-hit p [] ys e = refl
 all-hit p (x ∷ xs) ys e = let n = next p x (xs ++ ys) e in let h = all-hit p xs ys n.1 in rw (n.0, h) (omega arith)
 
--- the six stand behind three and before others
+-- the six are after three and before others
 behind : (p : ℕ → Bool) (a b c : ℕ) (xs ys : List ℕ) → find (λ r. not (p r)) (a ∷ b ∷ c ∷ (xs ++ ys)) ≡ None → hits p xs ≡ length xs
 behind p a b c xs ys e = all-hit p xs ys (next p c (xs ++ ys) (next p b (c ∷ (xs ++ ys)) (next p a (b ∷ c ∷ (xs ++ ys)) e).1).1).1
 

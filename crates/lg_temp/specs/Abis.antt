@@ -16,7 +16,7 @@ placed None word = place.Stack word
 abbrev pub place_of : Target → ℕ → ArgPlace
 place_of target i = placed (argument_register target i) (argument_word target i)
 
--- the register that stands for one of the portable machine
+-- the register that corresponds to one of the portable machine
 abbrev pub register_of : Target → Reg → ℕ
 register_of target Fp = frame_register target
 register_of target r = portable_register target (number_of r)

@@ -1,4 +1,4 @@
--- What one portable step is carried to, and what two states that stand for each other have.
+-- What one portable step is carried to, and what two states that correspond to each other have.
 use Rattle.std.specs.Prelude.{◌≡◌, ℕ, ◌<◌, ◌≤◌, ◌⊎◌}
 use Rattle.lg_base.specs.Runs.{Running, Ended, Bad, Machine, iter}
 
@@ -11,7 +11,7 @@ pub record Standing {P Q : Type 0} (portable : Machine P) (processor : Machine Q
   pub low : rank ≤ nodes
 
 -- at most 64 steps of the processor lead to where the portable step leads: to the same end, or to states
--- that stand for each other. No step is made only where the rank falls. On the way the output is that
+-- that correspond to each other. No step is made only where the rank falls. On the way the output is that
 -- before the portable step or that after it
 pub record Lands {P Q : Type 0} (portable : Machine P) (processor : Machine Q) (stands : P → Q → ℕ → Type 0) (p : P) (q : Q) (rank : ℕ) : Type 0 where
   pub steps : ℕ

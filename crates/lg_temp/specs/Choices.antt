@@ -7,8 +7,8 @@ use Rattle.lg_temp.specs.declared.choice.Choice.{Choice}
 use Rattle.lg_temp.specs.declared.choice.Choice.TheVariants.{Free, Own, Spill}
 use Rattle.lg_temp.specs.Chosen.{Around, order, stands_in, is_named, is_chosen, spills, is_own, is_busy, is_barred, choices_of}
 
--- a register for a need that names none, behind choices that are made: one that is tried, that the node neither reads nor writes, that no need names
--- and that is not chosen already
+-- a register for a need that names none, after choices that are made: one that is tried, that the node neither reads nor writes, that no need names and that
+-- is not chosen already
 pub record IsTaken (a : Around) (needs : List Need) (made : List Choice) (r : ℕ) : Type 0 where
   pub tried : list_any (λ x. x == r) (order a.target) ≡ true
   pub own : is_own a r ≡ false
@@ -19,8 +19,8 @@ pub record IsTaken (a : Around) (needs : List Need) (made : List Choice) (r : �
 abbrev pub IsUnwritten : Around → ℕ → Type 0
 IsUnwritten a r = stands_in a.target a.writes r ≡ false
 
--- a free register is neither read nor written by the node, and nothing behind the node needs it; the node's own is written; a saved one is not
--- written, and has the next slot
+-- a free register is neither read nor written by the node, and nothing after the node needs it; the node's own is written; a saved one is not written, and
+-- has the next slot
 abbrev pub IsFor : Around → List Need → List Choice → Need → Choice → Type 0
 IsFor a needs made Any (Free r) = IsTaken a needs made r × (is_busy a r ≡ false)
 IsFor a needs made Any (Own r) = ⊥

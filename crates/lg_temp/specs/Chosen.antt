@@ -21,7 +21,7 @@ order target = take 3 (portable_registers target) ++ (reverse (argument_register
 abbrev pub portable : List Reg
 portable = R0 ∷ R1 ∷ R2 ∷ V0 ∷ V1 ∷ V2 ∷ []
 
--- whether a register of the processor stands for a portable one of a set
+-- whether a register of the processor corresponds to a portable one of a set
 abbrev pub stands_in : Target → (Reg → Bool) → ℕ → Bool
 stands_in target set r = list_any (λ p. set p && (register_of target p == r)) portable
 
@@ -69,7 +69,7 @@ around target node live staged = record { target = target; reads = is_read node;
 abbrev pub is_own : Around → ℕ → Bool
 is_own a r = stands_in a.target a.reads r || stands_in a.target a.writes r
 
--- whether it holds what is needed behind the node
+-- whether it holds what is needed after the node
 abbrev pub is_busy : Around → ℕ → Bool
 is_busy a r = stands_in a.target a.live r || staged_in (argument_registers a.target) a.staged r
 
@@ -94,7 +94,7 @@ abbrev pub pick_any : Around → List Need → List Choice → Option Choice
 pick_any a needs choices =
     free_or_saved (first_free a needs choices (order a.target)) (first_saved a needs choices (order a.target)) (spills choices)
 
--- one register: the node's own where the node writes it, free where the node does not read it and nothing behind the node
+-- one register: the node's own where the node writes it, free where the node does not read it and nothing after the node
 -- needs it, and else saved
 abbrev pub pick_only : Around → List Choice → ℕ → Choice
 pick_only a choices r =
@@ -106,11 +106,11 @@ abbrev pub pick : Around → List Need → List Choice → Need → Option Choic
 pick a needs choices Any = pick_any a needs choices
 pick a needs choices (Only r) = Some (pick_only a choices r)
 
--- the choices for the needs that are left, behind those that are made
+-- the choices for the needs that are left, after those that are made
 abbrev pub chosen : Around → List Need → List Need → List Choice → Option (List Choice)
 chosen a needs [] choices = Some choices
 chosen a needs (need ∷ left) choices = option_and_then (λ choice. chosen a needs left (choices ++ choice ∷ [])) (pick a needs choices need)
 
--- the choices for the needs of a node, of which there are at most 3
+-- the choices for the needs of a node (at most 3)
 abbrev pub choices_of : Around → List Need → Option (List Choice)
 choices_of a needs = chosen a needs needs []

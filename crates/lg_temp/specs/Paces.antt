@@ -22,14 +22,14 @@ EndsAlike portable processor Alike p q =
     → (k : ℕ) × (((portable.status (iter portable.step k p) ≡ Ended status) × Alike (iter portable.step k p) (iter processor.step n q))
     ⊎ (portable.status (iter portable.step k p) ≡ Bad))
 
--- states that stand for each other run, with one output, and are alike
+-- states that correspond to each other run, with one output, and are alike
 pub record StandingAlike {P Q : Type 0} (portable : Machine P) (processor : Machine Q) (Alike : P → Q → Type 0) (p : P) (q : Q) : Type 0 where
   pub goes : portable.status p ≡ Running
   pub runs : processor.status q ≡ Running
   pub out : processor.out q ≡ portable.out p
   pub alike : Alike p q
 
--- at most 64 steps of the processor lead to where the portable step leads: to the same end, alike, or to states that stand for each other
+-- at most 64 steps of the processor lead to where the portable step leads: to the same end, alike, or to states that correspond to each other
 pub record LandsAlike {P Q : Type 0} (portable : Machine P) (processor : Machine Q) (Alike : P → Q → Type 0) (stands : P → Q → Type 0) (p : P) (q : Q)
     : Type 0 where
   pub steps : ℕ

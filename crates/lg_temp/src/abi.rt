@@ -17,15 +17,14 @@ pub enum ArgPlace {
 }
 
 /// The calling convention of a target: where arguments and results lie, which registers are kept, and which register
-/// stands for each of the portable machine. Registers are numbered as the target does: 0 to 15 on x86-64, 0 to 31 on the others.
+/// corresponds to each of the portable machine. Registers are numbered as the target does: 0 to 15 on x86-64, 0 to 31 on the others.
 #[derive(Clone, Copy, PartialEq, Eq)]
 pub struct Abi {
     /// The target.
     pub target: Target,
 }
 
-/// The registers of the first arguments by their numbers on the target, in order: 6 on x86-64, 8 on the others. Further arguments lie in
-/// stack words.
+/// Returns the registers of the first arguments by their numbers on the target, in order: 6 on x86-64, 8 on the others. Further arguments lie in stack words.
 pub fn argument_registers(target: Target) -> &'static [u8]
     ensures { result.now ≡ argument_registers target }
 {
@@ -37,7 +36,7 @@ pub fn argument_registers(target: Target) -> &'static [u8]
 }
 
 impl Abi {
-    /// The calling convention of the target.
+    /// Returns the calling convention of the target.
     pub fn of(target: Target) -> Abi
         ensures { result.target ≡ target }
     {
@@ -57,7 +56,7 @@ impl Abi {
         }
     }
 
-    /// The number of the register in which a call leaves its result.
+    /// Returns the number of the register in which a call leaves its result.
     pub fn result(&self) -> u8
         ensures { result ≡ result_register self.now.target }
     {
@@ -67,8 +66,7 @@ impl Abi {
         }
     }
 
-    /// Whether a call leaves a register as it was: callee-saved registers, and the stack pointer. False for a number that the target does not
-    /// have.
+    /// Returns whether a call leaves a register as it was: callee-saved registers, and the stack pointer. False for a number that the target does not have.
     pub fn kept(&self, reg: u8) -> bool
         ensures { result ≡ is_kept self.now.target reg }
     {
@@ -79,7 +77,7 @@ impl Abi {
         }
     }
 
-    /// The number of the register that stands for one of the portable machine.
+    /// Returns the number of the register that corresponds to one of the portable machine.
     pub fn portable(&self, reg: Reg) -> u8
         ensures { result ≡ register_of self.now.target reg }
     {

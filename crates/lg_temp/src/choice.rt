@@ -18,11 +18,11 @@ pub enum Need {
 /// The register that a temporary takes.
 #[derive(Clone, Copy, Debug, PartialEq, Eq)]
 pub enum Choice {
-    /// A register that holds nothing that is needed behind the node.
+    /// A register that holds nothing that is needed after the node.
     Free(u8),
     /// A register that the node writes.
     Own(u8),
-    /// A register that is saved in a spill slot before the node's code and restored behind it.
+    /// A register that is saved in a spill slot before the node's code and restored after it.
     Spill { reg: u8, slot: u32 },
 }
 
@@ -45,7 +45,7 @@ impl Model for Needs {
 }
 
 impl Needs {
-    /// The list of these needs, of which there are at most 3.
+    /// The list of these needs (at most 3).
     pub fn of(list: &[Need]) -> Needs
         requires { length list.now ≤ 3 }
         ensures { result ≡ list.now }
@@ -79,7 +79,7 @@ impl Needs {
     }
 }
 
-// What stands behind the last choice.
+// What is after the last choice.
 const UNUSED: Choice = Choice::Free(0);
 
 /// A list of at most 3 choices, held inline.
@@ -111,7 +111,7 @@ impl Choices {
         }
     }
 
-    /// The list of these choices, of which there are at most 3.
+    /// Returns the list of these choices (at most 3).
     pub fn of(list: &[Choice]) -> Choices
         requires { length list.now ≤ 3 }
         ensures { result ≡ list.now }
@@ -133,7 +133,7 @@ impl Choices {
         }
     }
 
-    /// The list with a choice more. There are at most 2 before.
+    /// Returns the list with a choice more. There are at most 2 before.
     pub fn with(self, choice: Choice) -> Choices
         requires { length self < 3 }
         ensures { result ≡ self ++ choice ∷ [] }
@@ -155,7 +155,7 @@ impl Choices {
         }
     }
 
-    /// The choices.
+    /// Returns the choices.
     pub fn as_slice(&self) -> &[Choice]
         ensures value { result.now ≡ self.now }
         ensures few { length result.now ≤ 3 }
@@ -172,7 +172,7 @@ pub struct Staged {
 }
 
 impl Staged {
-    /// The set without arguments.
+    /// Returns the set without arguments.
     pub fn none() -> Staged
         ensures { result.arguments ≡ replicate 16 false }
     {
@@ -181,7 +181,7 @@ impl Staged {
         }
     }
 
-    /// The set of these arguments. Each number is below 16.
+    /// Returns the set of these arguments. Each number is below 16.
     pub fn of(list: &[u32]) -> Staged
         requires { All (λ index. index < 16) list.now }
         ensures each { (index : ℕ) → slice_index_or result.arguments index false ≡ list_any (λ k. k == index) list.now }
@@ -194,14 +194,14 @@ impl Staged {
         staged
     }
 
-    /// Whether an argument is in the set. None is from number 16 on.
+    /// Returns whether an argument is in the set. None is from number 16 on.
     pub fn has(self, index: u32) -> bool
         ensures { result ≡ slice_index_or self.arguments index false }
     {
         self.arguments.get(index as usize).copied().unwrap_or(false)
     }
 
-    /// How many arguments are in the set.
+    /// Returns how many arguments are in the set.
     pub fn len(self) -> u32
         ensures value { result ≡ count_by (λ argument. argument) self.arguments }
         ensures few { result ≤ 16 }
@@ -209,14 +209,14 @@ impl Staged {
         self.arguments.iter().filter(|argument| **argument).count() as u32
     }
 
-    /// Whether no argument is in the set.
+    /// Returns whether no argument is in the set.
     pub fn is_empty(self) -> bool
         ensures { IsTrue result ↔ (count_by (λ argument. argument) self.arguments ≡ 0) }
     {
         self.len() == 0
     }
 
-    /// The set with an argument more. Its number is below 16.
+    /// Returns the set with an argument more. Its number is below 16.
     pub fn with(self, index: u32) -> Staged
         requires { index < 16 }
         ensures { result.arguments ≡ slice_set self.arguments index true }

@@ -11,7 +11,7 @@ use lg_base::Target;
 use lg_live::{RegSet, reads, writes};
 use lg_op::{Node, Reg};
 
-// The order in which registers are tried.
+// Returns the order in which registers are tried.
 fn order(target: Target) -> &'static [u8]
     ensures { result.now ≡ order target }
 {
@@ -22,7 +22,7 @@ fn order(target: Target) -> &'static [u8]
     }
 }
 
-// Whether a register stands for one of a set.
+// Returns whether a register corresponds to one of a set.
 fn stands_in(target: Target, set: RegSet, reg: u8) -> bool
     ensures { result ≡ stands_in target (has set) reg }
 {
@@ -35,7 +35,7 @@ fn stands_in(target: Target, set: RegSet, reg: u8) -> bool
         || set.has(Reg::V2) && abi.portable(Reg::V2) == reg
 }
 
-// Whether a register is that of an argument of the set.
+// Returns whether a register is that of an argument of the set.
 fn staged_in(registers: &[u8], arguments: &[bool], reg: u8) -> bool
     ensures { result ≡ staged_in registers.now arguments.now reg }
 {
@@ -50,7 +50,7 @@ fn staged_in(registers: &[u8], arguments: &[bool], reg: u8) -> bool
     }
 }
 
-// Whether a need names a register.
+// Returns whether a need names a register.
 fn is_named(needs: &[Need], reg: u8) -> bool
     ensures { result ≡ is_named needs.now reg }
 {
@@ -62,7 +62,7 @@ fn is_named(needs: &[Need], reg: u8) -> bool
 }
 
 impl Choice {
-    /// The register that is taken.
+    /// Returns the register that is taken.
     pub fn register(self) -> u8
         ensures { result ≡ taken_by self }
     {
@@ -72,7 +72,7 @@ impl Choice {
     }
 }
 
-// Whether a register is chosen already.
+// Returns whether a register is chosen already.
 fn is_chosen(choices: &[Choice], reg: u8) -> bool
     ensures { result ≡ is_chosen choices.now reg }
 {
@@ -82,7 +82,7 @@ fn is_chosen(choices: &[Choice], reg: u8) -> bool
     }
 }
 
-// How many choices are saved.
+// Returns how many choices are saved.
 fn spills(choices: &[Choice]) -> u32
     requires { length choices.now ≤ 3 }
     ensures { result ≡ spills choices.now }
@@ -108,14 +108,14 @@ impl Around {
     ghost use Rattle.lg_temp.specs.Arounds.{seen};
     ghost use Rattle.lg_temp.specs.Chosen.{is_own, is_busy, is_barred, first_free, first_saved, pick_any, pick_only, pick, chosen};
 
-    // Whether the node reads or writes a register.
+    // Returns whether the node reads or writes a register.
     fn is_own(&self, reg: u8) -> bool
         ensures { result ≡ is_own (seen self.now) reg }
     {
         stands_in(self.target, self.reads, reg) || stands_in(self.target, self.writes, reg)
     }
 
-    // Whether a register holds what is needed behind the node.
+    // Returns whether a register holds what is needed after the node.
     fn is_busy(&self, reg: u8) -> bool
         ensures { result ≡ is_busy (seen self.now) reg }
     {
@@ -123,14 +123,14 @@ impl Around {
             || staged_in(argument_registers(self.target), &self.staged.arguments, reg)
     }
 
-    // Whether a need that names no register may not take a register.
+    // Returns whether a need that names no register may not take a register.
     fn is_barred(&self, needs: &[Need], choices: &[Choice], reg: u8) -> bool
         ensures { result ≡ is_barred (seen self.now) needs.now choices.now reg }
     {
         self.is_own(reg) || is_named(needs, reg) || is_chosen(choices, reg)
     }
 
-    // The first register that is not barred.
+    // Returns the first register that is not barred.
     fn first_saved(&self, needs: &[Need], choices: &[Choice], registers: &[u8]) -> Option<u8>
         ensures { result ≡ first_saved (seen self.now) needs.now choices.now registers.now }
     {
@@ -146,7 +146,7 @@ impl Around {
         }
     }
 
-    // The first register that is neither barred nor busy.
+    // Returns the first register that is neither barred nor busy.
     fn first_free(&self, needs: &[Need], choices: &[Choice], registers: &[u8]) -> Option<u8>
         ensures { result ≡ first_free (seen self.now) needs.now choices.now registers.now }
     {
@@ -162,7 +162,7 @@ impl Around {
         }
     }
 
-    // The choice for a need that names no register. One can always be saved.
+    // Returns the choice for a need that names no register. One can always be saved.
     fn pick_any(&self, needs: &[Need], choices: &[Choice]) -> Choice
         requires needs { length needs.now ≤ 3 }
         requires room { length choices.now ≤ 2 }
@@ -181,7 +181,7 @@ impl Around {
         }
     }
 
-    // The choice for a need that names a register.
+    // Returns the choice for a need that names a register.
     fn pick_only(&self, choices: &[Choice], reg: u8) -> Choice
         requires { length choices.now ≤ 3 }
         ensures { result ≡ pick_only (seen self.now) choices.now reg }
@@ -198,7 +198,7 @@ impl Around {
         }
     }
 
-    // The choice for a need.
+    // Returns the choice for a need.
     fn pick(&self, needs: &[Need], choices: &[Choice], need: Need) -> Choice
         requires needs { length needs.now ≤ 3 }
         requires room { length choices.now ≤ 2 }
@@ -210,7 +210,7 @@ impl Around {
         }
     }
 
-    // The choices for the needs that are left, behind those that are made.
+    // Returns the choices for the needs that are left, after those that are made.
     fn chosen(&self, needs: &[Need], left: &[Need], choices: Choices) -> Choices
         requires needs { length needs.now ≤ 3 }
         requires room { length left.now + length choices ≤ 3 }
@@ -226,7 +226,7 @@ impl Around {
     }
 }
 
-/// The registers that the temporaries of a node take, one for each need. For `Any` it is the first in the order R0, R1, R2, the
+/// Returns the registers that the temporaries of a node take, one for each need. For `Any` it is the first in the order R0, R1, R2, the
 /// argument registers from the last to the first, V0, V1, V2 that the node neither reads nor writes, that isn't live after it,
 /// staged, named by a need or chosen already; only where there is none, one is saved. For `Only` the register is the node's
 /// own where the node writes it, free where the node doesn't read it and it is neither live after it nor staged, and else

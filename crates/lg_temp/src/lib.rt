@@ -17,8 +17,8 @@ pub use abi::{Abi, ArgPlace};
 pub use choice::{Choice, Choices, Need, Needs, Staged};
 pub use choosing::choose;
 
-/// Two machines, of which each step of the first is carried to steps of the second, from states that
-/// stand for each other at a rank.
+/// Two machines: each step of the first is carried to steps of the second, from states that
+/// correspond to each other at a rank.
 pub trait Simulation {
     /// A state of the portable machine.
     type Portable;
@@ -32,7 +32,7 @@ pub trait Simulation {
     /// The processor.
     ghost processor: { Machine Self.Processor };
 
-    /// Whether two states stand for each other at a rank.
+    /// Whether two states correspond to each other at a rank.
     ghost stands: { Self.Portable → Self.Processor → ℕ → Type 0 };
 
     /// The number of nodes, which bounds the ranks.
@@ -47,19 +47,19 @@ pub trait Simulation {
     /// The processor is one.
     ghost processor_is: { IsMachine processor };
 
-    /// States that stand for each other run alike.
+    /// States that correspond to each other run alike.
     ghost standing: { (p : Self.Portable) (q : Self.Processor) (rank : ℕ) → stands p q rank → Standing portable processor nodes p q rank };
 
-    /// Each portable step from states that stand for each other is carried.
+    /// Each portable step from states that correspond to each other is carried.
     ghost carries: { (p : Self.Portable) (q : Self.Processor) (rank : ℕ) → stands p q rank → Carries portable processor stands p q rank };
 }
 
-/// From states that stand for each other, the runs agree after any number of steps.
+/// From states that correspond to each other, the runs agree after any number of steps.
 pub fn agree<S: Simulation>()
     ensures { (p : S.Portable) (q : S.Processor) (rank n : ℕ) → S.stands p q rank → AgreesAt S.portable S.processor S.nodes p q n }
 {}
 
-/// Two machines, of which each step of the first is carried to steps of the second, from states that stand for each other to states
+/// Two machines: each step of the first is carried to steps of the second, from states that correspond to each other to states
 /// that are alike in what is asked of them.
 pub trait PacedSimulation {
     /// A state of the portable machine.
@@ -77,7 +77,7 @@ pub trait PacedSimulation {
     /// Whether two states are alike, besides their status and their output.
     ghost alike: { Self.Portable → Self.Processor → Type 0 };
 
-    /// Whether two states stand for each other.
+    /// Whether two states correspond to each other.
     ghost stands: { Self.Portable → Self.Processor → Type 0 };
 
     /// The portable machine is one.
@@ -86,14 +86,14 @@ pub trait PacedSimulation {
     /// The processor is one.
     ghost processor_is: { IsMachine processor };
 
-    /// States that stand for each other run, and are alike.
+    /// States that correspond to each other run, and are alike.
     ghost standing: { (p : Self.Portable) (q : Self.Processor) → stands p q → StandingAlike portable processor alike p q };
 
-    /// Each portable step from states that stand for each other is carried.
+    /// Each portable step from states that correspond to each other is carried.
     ghost carries: { (p : Self.Portable) (q : Self.Processor) → stands p q → CarriesAlike portable processor alike stands p q };
 }
 
-/// From states that stand for each other, the processor keeps pace.
+/// From states that correspond to each other, the processor keeps pace.
 pub fn keep_pace<S: PacedSimulation>()
     ensures { (p : S.Portable) (q : S.Processor) → S.stands p q → KeepsPace S.portable S.processor S.alike p q }
 {}

@@ -10,7 +10,7 @@ use Rattle.lg_tst.specs.Units.{unit_of}
 abbrev pub meant : TextUnit → ℕ → Run
 meant unit k = mean unit.nodes (shape_of_unit unit) [] unit.image (args_of (codes "t.tst" ∷ [])) k
 
--- the text has a unit, whose meaning has written these bytes and ended with this status behind so many steps
+-- the text has a unit, whose meaning has written these bytes and ended with this status after this many steps
 abbrev pub Means : List ℕ → (steps status : ℕ) → (out : List ℕ) → Type 0
 Means text steps status out =
     (unit : TextUnit) × (unit_of text ≡ Ok unit) × ((meant unit steps).status ≡ Ended status) × ((meant unit steps).out ≡ out)

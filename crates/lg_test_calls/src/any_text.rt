@@ -1,6 +1,6 @@
 // Runs any bytes as a text: 20,000 texts that are made of those that `texts.txt` names, each changed at one to four places by a fixed generator, go through
-// the program's top call, in turn on each target and in each mode that reads a text, with at most 1,000 steps. Each comes to an answer by name, with a line
-// on the standard error exactly where the answer has one. Prints how many calls came to what, and of the refused ones how many to which kind.
+// the program's top call, in turn on each target and in each mode that reads a text, with at most 1,000 steps. Each gives an answer by name, with a line on
+// the standard error exactly where the answer has one. Prints how many calls came to what, and of the refused ones how many to which kind.
 
 mod changes;
 
@@ -19,12 +19,12 @@ const TARGETS: [&str; 3] = ["x86_64", "aarch64", "riscv64"];
 
 const MODES: [&str; 4] = ["run", "mean", "run", "list"];
 
-// The text of a name.
+// Returns the text of a name.
 fn text_of(rt: &HostRuntime, name: &str) -> io::Result<Vec<u8>> {
     fs::read(rt, format!(in rt.alloc(); "{name}.tst")?)
 }
 
-// The texts that a list names.
+// Returns the texts that a list names.
 fn texts_of(rt: &HostRuntime, list: &str) -> io::Result<Vec<Vec<u8>>> {
     let mut texts = Vec::new(rt.alloc());
     for name in list.lines() {
@@ -33,13 +33,13 @@ fn texts_of(rt: &HostRuntime, list: &str) -> io::Result<Vec<Vec<u8>>> {
     Ok(texts)
 }
 
-// The words of a call.
+// Returns the words of a call.
 fn words_in(alloc: Global, target: &str, mode: &str) -> Result<Vec<String>, OutOfMemory> {
     let line = format!(in alloc; "lightning --target {target} --mode {mode} --steps 1000 t.tst 7")?;
     words_of(alloc, line.as_str(), "")
 }
 
-// Makes a call on a text that is changed first, and counts what it comes to.
+// Makes a call on a text that is changed first, and counts its outcome.
 fn call_changed(
     alloc: Global,
     round: usize,
@@ -52,7 +52,7 @@ fn call_changed(
     count_call(alloc, &words, &text, tally)
 }
 
-// What the calls come to, in turn on each text, target and mode.
+// Returns the outcomes of the calls, in turn on each text, target and mode.
 fn tally_of(alloc: Global, texts: &[Vec<u8>]) -> Result<Tally, OutOfMemory> {
     let mut random = Random { state: 1 };
     let mut tally = Tally::new();

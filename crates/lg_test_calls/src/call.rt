@@ -1,4 +1,4 @@
-// Calls of the program. What the top call promises is for proofs, and of no use here: so one function makes it, and hands on what it comes to.
+// Calls of the program. What the top call promises is for proofs, and of no use here: so one function makes it, and passes on its outcome.
 
 use lg_asm::Code;
 use lg_base::OutOfMemory;
@@ -26,7 +26,7 @@ fn push_words(
     Ok(())
 }
 
-/// The words of a line, with blanks between them, and behind them those of another, with bars between.
+/// Returns the words of a line, with blanks between them, and after them those of another, with bars between.
 pub fn words_of(alloc: Global, line: &str, further: &str) -> Result<Vec<String>, OutOfMemory> {
     let mut words = Vec::new(alloc);
     push_words(alloc, &mut words, line, ' ')?;
@@ -34,7 +34,7 @@ pub fn words_of(alloc: Global, line: &str, further: &str) -> Result<Vec<String>,
     Ok(words)
 }
 
-/// What a call comes to: its answer, and what it wrote to both outputs.
+/// The outcome of a call: its answer, and what it wrote to both outputs.
 #[derive(Drop)]
 pub struct Called {
     pub answer: Answer,
@@ -42,7 +42,7 @@ pub struct Called {
     pub err: MemorySink,
 }
 
-// What a call over texts comes to: every call here is made by it. What the top call promises is quick to prove of any texts and sinks.
+// The outcome of a call over texts: every call here is made by it. What the top call promises is quick to prove of any texts and sinks.
 fn done_on<T: Texts, O: Sink, E: Sink>(
     alloc: Global,
     words: &Vec<String>,
@@ -82,7 +82,7 @@ pub const NO_FAULTS: Faults = Faults {
     room: ROOM,
 };
 
-/// What a call over texts comes to, where these calls of the sinks fail.
+/// The outcome of a call over texts, where these calls of the sinks fail.
 pub fn call_on<T: Texts>(
     alloc: Global,
     words: &Vec<String>,
@@ -95,7 +95,7 @@ pub fn call_on<T: Texts>(
     Ok(Called { answer, out, err })
 }
 
-/// What a call over the real files comes to, with so much room for its output.
+/// Returns the outcome of a call over the real files, with this much room for its output.
 pub fn call_on_files(
     rt: &(impl Files + Input + AllocGlobal),
     words: &Vec<String>,
@@ -111,7 +111,7 @@ pub fn call_on_files(
     call_on(rt.alloc(), words, &mut texts, faults)
 }
 
-// One text in memory, by its name, of which this call fails.
+// One text in memory, by its name, whose call of this number fails.
 fn texts_of(
     alloc: Global,
     (name, text): (&str, &[u8]),
@@ -122,7 +122,7 @@ fn texts_of(
     Ok(texts)
 }
 
-/// What a call over one text in memory comes to, by its name.
+/// Returns the outcome of a call over one text in memory, by its name.
 pub fn call_on_text(
     alloc: Global,
     words: &Vec<String>,
@@ -144,7 +144,7 @@ fn code_on<T: Texts>(
     Ok(done_on(alloc, words, texts, &mut out, &mut err).code)
 }
 
-/// The code of a call over the text `t.tst`, where it makes any.
+/// Returns the code of a call over the text `t.tst`, where it makes any.
 pub fn code_on_text(
     alloc: Global,
     words: &Vec<String>,

@@ -34,7 +34,7 @@ struct Convention {
     popped: u64,
 }
 
-// The convention of a target, by its word.
+// Returns the convention of a target, by its word.
 fn convention_of(word: &str) -> Convention
     ensures stack { result.stack < 32 }
     ensures result { result.result < 32 }
@@ -64,7 +64,7 @@ fn convention_of(word: &str) -> Convention
     }
 }
 
-// The word that a register holds in a state at the call.
+// Returns the word that a register holds in a state at the call.
 fn word(state: u64, register: u8) -> u64 {
     state
         .wrapping_add(1)
@@ -98,7 +98,7 @@ enum End {
     Otherwise,
 }
 
-// Whether the callee-saved registers hold what they held at the call.
+// Returns whether the callee-saved registers hold what they held at the call.
 fn are_kept(cpu: &Cpu, convention: Convention, state: u64) -> bool {
     convention
         .saved
@@ -197,7 +197,7 @@ fn ends_so(
     Ok(true)
 }
 
-// Whether a call ended as a word says: with `exit`, with a return that has no result (`none`), or with this number as its result.
+// Returns whether a call ended as a word says: with `exit`, with a return that has no result (`none`), or with this number as its result.
 fn is_end(end: End, wanted: &str) -> bool {
     match end {
         End::Exited => wanted == "exit",

@@ -1,6 +1,6 @@
-// Makes the calls of the cases in `data/cases`. `files.txt` has the name of a file a line. A line of four equal signs stands in front of each case of a file
-// (src/cases/case.rt says what a case has), and what stands in front of the first is what a line `HEAD` of a text stands for. Prints for each call that is not
-// right what it comes to, and for each file how many calls are right, and how many lines they write as they should.
+// Makes the calls of the cases in `data/cases`. `files.txt` has the name of a file a line. A line of four equal signs is in front of each case of a file
+// (src/cases/case.rt says what a case has), and what is in front of the first is what a line `HEAD` of a text denotes. Prints for each call that is not right
+// its outcome, and for each file how many calls are right, and how many lines they write as they should.
 
 pub mod case;
 pub mod unfolded;
@@ -16,7 +16,7 @@ use std::rt::Files;
 use std::{fs, io};
 use unfolded::unfolded;
 
-// What a call of a case comes to, with these options in front of its own words.
+// Returns the outcome of a call of a case, with these options in front of its own words.
 fn call_of(
     rt: &(impl Files + Input + AllocGlobal),
     options: &str,
@@ -31,7 +31,7 @@ fn call_of(
     }
 }
 
-/// What a call of a case comes to in a mode on a target, with the statistics.
+/// Returns the outcome of a call of a case in a mode on a target, with the statistics.
 pub fn call_in(
     rt: &(impl Files + Input + AllocGlobal),
     mode: &str,
@@ -43,7 +43,7 @@ pub fn call_in(
     call_of(rt, options.as_str(), case, text)
 }
 
-// What a case should write: what stands there, or what its meaning writes.
+// What a case should write: what is there, or what its meaning writes.
 fn output_of(
     rt: &(impl Files + Input + AllocGlobal),
     case: Case<'_>,
@@ -117,12 +117,12 @@ fn make_calls(rt: &HostRuntime, head: &str, case: Case<'_>, found: &mut Found) -
     Ok(())
 }
 
-/// The head of a file, and its cases.
+/// Returns the head of a file, and its cases.
 pub fn head_and_cases(file: &str) -> (&str, &str) {
     file.split_once("====\n").unwrap_or((file, ""))
 }
 
-// Makes the calls of a file's cases, and tells whether all are right.
+// Makes the calls of a file's cases, and returns whether all are right.
 fn make_file(rt: &HostRuntime, name: &str, file: &str) -> io::Result<bool> {
     let (head, cases) = head_and_cases(file);
     let mut found = Found {
@@ -145,18 +145,18 @@ fn make_file(rt: &HostRuntime, name: &str, file: &str) -> io::Result<bool> {
     Ok(wrong == 0)
 }
 
-/// A file of cases by its name.
+/// Returns a file of cases by its name.
 pub fn file_of(rt: &(impl Files + AllocGlobal), name: &str) -> io::Result<String> {
     fs::read_to_string(rt, format!(in rt.alloc(); "cases/{name}.txt")?)
 }
 
-// Makes the calls of the file of a name, and tells whether all are right.
+// Makes the calls of the file of a name, and returns whether all are right.
 fn make_named(rt: &HostRuntime, name: &str) -> io::Result<bool> {
     let file = file_of(rt, name)?;
     make_file(rt, name, file.as_str())
 }
 
-/// Makes the calls of all files, prints what they come to, and tells whether all are right.
+/// Makes the calls of all files, prints their outcomes, and returns whether all are right.
 pub fn make_cases(rt: &HostRuntime) -> io::Result<bool> {
     let files = file_of(rt, "files")?;
     let mut all = true;

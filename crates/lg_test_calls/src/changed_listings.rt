@@ -33,7 +33,7 @@ fn push_listings(
     Ok(())
 }
 
-// The listings of the texts of a list on each target of a list.
+// Returns the listings of the texts of a list on each target of a list.
 fn listings_of(
     rt: &(impl Files + Input + AllocGlobal),
     targets: &str,
@@ -64,14 +64,14 @@ fn other_byte(old: u8, random: &mut Random) -> u8 {
     if byte == old { old ^ 1 } else { byte }
 }
 
-// Whether a changed listing is refused for what it is, so many lines behind those before the change: at its line, or at the one behind it, where the line was
-// cut in two.
+// Returns whether a changed listing is refused for what it is, this many lines after those before the change: at its line, or at the one after it, where the
+// line was cut in two.
 fn is_refused_there(refusal: Refusal, lines: usize, is_cut: bool) -> bool {
     let behind = (refusal.line as usize).wrapping_sub(lines);
     refusal.kind == RefusalKind::BadListing && (behind == 1 || (is_cut && behind == 2))
 }
 
-// Counts what came of a listing that was changed behind so many lines.
+// Counts what came of a listing that was changed after this many lines.
 fn count_answer(
     alloc: Global,
     listing: &[u8],

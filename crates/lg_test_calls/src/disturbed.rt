@@ -35,7 +35,7 @@ const WORDS: u64 = 64;
 /// Room for what a run writes, in bytes.
 pub(crate) const ROOM: usize = 1_048_576;
 
-/// The unit of a text of at most 16,777,216 bytes.
+/// Returns the unit of a text of at most 16,777,216 bytes.
 pub(crate) fn unit_of(alloc: Global, text: &[u8]) -> Result<Unit, Stop> {
     if text.len() > MOST_TEXT {
         return Err(Stop::OutOfMemory);
@@ -44,19 +44,19 @@ pub(crate) fn unit_of(alloc: Global, text: &[u8]) -> Result<Unit, Stop> {
     parse(alloc, expanded.as_slice())
 }
 
-// The words of a call that takes one step of a text's code for a target.
+// Returns the words of a call that takes one step of a text's code for a target.
 fn step_words(alloc: Global, target: &str) -> Result<Vec<String>, OutOfMemory> {
     let line = format!(in alloc; "lightning --steps 1 --target {target} t.tst")?;
     words_of(alloc, line.as_str(), "")
 }
 
-/// The code of a text for a target, by such a call.
+/// Returns the code of a text for a target, by such a call.
 pub(crate) fn code_of(alloc: Global, target: &str, text: &[u8]) -> Result<Code, Stop> {
     let words = step_words(alloc, target)?;
     code_on_text(alloc, &words, text)?.ok_or(Stop::OutOfMemory)
 }
 
-/// Whether code and a data part fit the memory.
+/// Returns whether code and a data part fit the memory.
 pub(crate) fn fit(code: &Code, unit: &Unit) -> bool
     ensures { IsTrue result → (length code.now.bytes ≤ most_code) × (length unit.now.image ≤ 0x1000000) }
 {
@@ -146,7 +146,7 @@ fn run_anew(
     Ok(Ran { out, end })
 }
 
-// Whether two runs of code, of which one is disturbed, write the same and end in the same way.
+// Whether two runs of code, one of which is disturbed, write the same and end in the same way.
 fn run_alike(
     alloc: Global,
     code: &Code,
@@ -164,7 +164,7 @@ fn run_alike(
     Ok(still.end == disturbed.end && still.out.bytes() == disturbed.out.bytes())
 }
 
-/// The argument part of a text with these words after its name, with bars between.
+/// Returns the argument part of a text with these words after its name, with bars between.
 pub(crate) fn args_of(alloc: Global, further: &str) -> Result<ArgImage, Stop>
     ensures { IfOk result (λ args. length args ≤ most_args) }
 {
@@ -175,7 +175,7 @@ pub(crate) fn args_of(alloc: Global, further: &str) -> Result<ArgImage, Stop>
     args_image(alloc, &words)
 }
 
-// Whether code and a unit that fit the memory run alike with words behind the text's name.
+// Whether code and a unit that fit the memory run alike with words after the text's name.
 fn code_runs_alike(
     alloc: Global,
     code: &Code,
@@ -192,7 +192,7 @@ fn code_runs_alike(
     Ok(run_alike(alloc, code, unit, &args, stack)?)
 }
 
-// Whether the code of a text for a target runs alike with words behind its name, over the text's unit.
+// Whether the code of a text for a target runs alike with words after its name, over the text's unit.
 fn unit_runs_alike(
     alloc: Global,
     target: &str,
@@ -204,7 +204,7 @@ fn unit_runs_alike(
     code_runs_alike(alloc, &code, unit, stack_of(target), further)
 }
 
-/// Whether the code of a text for a target, with words behind its name, writes the same bytes and ends in the same way where its stack is disturbed as where
+/// Whether the code of a text for a target, with words after its name, writes the same bytes and ends in the same way where its stack is disturbed as where
 /// it is not.
 pub fn is_alike(alloc: Global, target: &str, text: &[u8], further: &str) -> Result<bool, Stop> {
     let unit = unit_of(alloc, text)?;

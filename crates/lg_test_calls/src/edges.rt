@@ -1,4 +1,4 @@
-// What no case of a table has: texts beside the one that is asked for, a line that no call here comes to, the labels of code, and all beginnings of a text.
+// What no case of a table has: texts beside the one that is asked for, a line that no call here reaches, the labels of code, and all beginnings of a text.
 
 use crate::call::{NO_FAULTS, call_on, code_on_text, words_of};
 use crate::tally::{LISTED, REFUSED, Tally, count_call};
@@ -19,7 +19,7 @@ fn three_texts(alloc: Global) -> Result<MemoryTexts, OutOfMemory> {
     Ok(texts)
 }
 
-// Whether a call on these texts comes to this.
+// Whether a call on these texts results in this.
 fn comes_to(
     alloc: Global,
     words: &Vec<String>,
@@ -55,7 +55,7 @@ fn reads_its_own(alloc: Global, words: &Vec<String>) -> Result<bool, OutOfMemory
     are_their_own(alloc, words, &mut texts)
 }
 
-// Whether want of memory has its line and status.
+// Whether running out of memory has its line and status.
 fn tells_want_of_memory(alloc: Global) -> Result<bool, OutOfMemory> {
     let mut err = MemorySink::new(alloc, 64, &[])?;
     let answer = report_words(Answer::OutOfMemory, &mut err);
@@ -75,7 +75,7 @@ fn gives_labels(alloc: Global, words: &Vec<String>) -> Result<bool, OutOfMemory>
     }
 }
 
-// What the calls that list each beginning of a text come to.
+// Returns the outcomes of the calls that list each beginning of a text.
 fn list_beginnings(alloc: Global, text: &[u8]) -> Result<Tally, OutOfMemory> {
     let words = words_of(alloc, "lightning --mode list t.tst", "")?;
     let mut tally = Tally::new();
@@ -90,7 +90,7 @@ fn tell(rt: &HostRuntime, what: &str, holds: Result<bool, OutOfMemory>) -> io::R
     println!(rt; "{what}: {}", holds.unwrap_or(false))
 }
 
-// Makes the calls with these words, and prints what they come to.
+// Makes the calls with these words, and prints their outcomes.
 fn try_words(rt: &HostRuntime, words: &Vec<String>) -> io::Result<()> {
     let alloc = rt.alloc();
     tell(rt, "no other text is read", reads_its_own(alloc, words))?;
@@ -102,7 +102,7 @@ fn try_words(rt: &HostRuntime, words: &Vec<String>) -> io::Result<()> {
     )
 }
 
-/// Makes the calls, and prints what they come to.
+/// Makes the calls, and prints their outcomes.
 pub fn try_edges(rt: &HostRuntime) -> io::Result<()> {
     match words_of(rt.alloc(), "lightning t.tst", "") {
         Ok(words) => try_words(rt, &words),
@@ -110,7 +110,7 @@ pub fn try_edges(rt: &HostRuntime) -> io::Result<()> {
     }
 }
 
-// Prints whether so many beginnings are all listed or refused, and else what they come to.
+// Prints whether this many beginnings are all listed or refused, and else their outcomes.
 fn print_beginnings(rt: &HostRuntime, beginnings: usize, tally: &Tally) -> io::Result<()> {
     let told = tally.answers[LISTED].wrapping_add(tally.answers[REFUSED]);
     if told == beginnings as u64 && tally.odd == 0 {
@@ -120,7 +120,7 @@ fn print_beginnings(rt: &HostRuntime, beginnings: usize, tally: &Tally) -> io::R
     }
 }
 
-/// Lists each beginning of a text, and prints what it comes to.
+/// Lists each beginning of a text, and prints its outcome.
 pub fn try_beginnings(rt: &HostRuntime) -> io::Result<()> {
     let text = fs::read(rt, "examples/nfibs.tst")?;
     let tally = list_beginnings(rt.alloc(), &text).unwrap_or(Tally::new());

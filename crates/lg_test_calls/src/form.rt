@@ -1,8 +1,8 @@
-// Whether bytes have a form: `#` stands for any number, `+` for any but 0, and `~` for all up to the end of a line.
+// Whether bytes have a form: `#` denotes any number, `+` for any but 0, and `~` for all up to the end of a line.
 
 use std::{fs, io};
 
-// The bytes behind the digits that they begin with, or, for `~`, from the next line feed on.
+// Returns the bytes after the digits that they begin with, or, for `~`, from the next line feed on.
 fn behind_all(form: u8, bytes: &[u8]) -> &[u8] {
     for (place, byte) in bytes.iter().enumerate() {
         let is_behind = if form == b'~' {
@@ -17,7 +17,7 @@ fn behind_all(form: u8, bytes: &[u8]) -> &[u8] {
     &[]
 }
 
-// The bytes behind what one byte of a form stands for, and None where they begin otherwise.
+// Returns the bytes after what one byte of a form denotes, or `None` if they begin otherwise.
 fn behind_piece(form: u8, bytes: &[u8]) -> Option<&[u8]> {
     let [first, behind @ ..] = bytes else {
         return None;
@@ -31,7 +31,7 @@ fn behind_piece(form: u8, bytes: &[u8]) -> Option<&[u8]> {
     }
 }
 
-/// Whether bytes have a form.
+/// Returns whether bytes have a form.
 pub fn has_form(form: &[u8], bytes: &[u8]) -> bool {
     let mut rest = bytes;
     for piece in form {

@@ -12,7 +12,7 @@ use std::io::Input;
 use std::rt::Files;
 use std::{io, str};
 
-// The value of a hexadecimal digit.
+// Returns the value of a hexadecimal digit.
 fn value(digit: u8) -> Option<u8>
     ensures { IfSome result (λ value. value < 16) }
 {
@@ -23,7 +23,7 @@ fn value(digit: u8) -> Option<u8>
     }
 }
 
-// Appends the bytes that the digits of a line spell, two a byte: they stand between its first two pairs of blanks, where it has an address in front.
+// Appends the bytes that the digits of a line spell, two a byte: they are between its first two pairs of blanks, where it has an address in front.
 fn push_bytes(line: &str, bytes: &mut Vec<u8>) -> Result<(), AllocError> {
     let (address, rest) = line.split_once("  ").unwrap_or(("", ""));
     let (digits, _) = rest.split_once(' ').unwrap_or(("", ""));
@@ -40,7 +40,7 @@ fn push_bytes(line: &str, bytes: &mut Vec<u8>) -> Result<(), AllocError> {
     Ok(())
 }
 
-// The bytes that the digits of a listing spell, one line after the other.
+// Returns the bytes that the digits of a listing spell, one line after the other.
 fn spelled(alloc: Global, listing: &[u8]) -> Result<Vec<u8>, AllocError> {
     let mut bytes = Vec::new(alloc);
     for line in str::from_utf8(listing).unwrap_or("").lines() {
@@ -49,7 +49,7 @@ fn spelled(alloc: Global, listing: &[u8]) -> Result<Vec<u8>, AllocError> {
     Ok(bytes)
 }
 
-/// What a listing is read back to.
+/// Returns what a listing is read back to.
 pub fn read_back(alloc: Global, listing: &[u8]) -> Result<Called, OutOfMemory> {
     let words = words_of(alloc, "lightning --mode back t.lst", "")?;
     call_on_text(alloc, &words, ("t.lst", listing), BACK)
@@ -88,7 +88,7 @@ pub fn is_read_back(
     gives_its_bytes(rt.alloc(), listing.out.bytes())
 }
 
-// The words of a call over a text of the real files, by its name without `.tst`.
+// Returns the words of a call over a text of the real files, by its name without `.tst`.
 fn words_on(
     alloc: Global,
     mode: &str,
@@ -99,7 +99,7 @@ fn words_on(
     words_of(alloc, line.as_str(), "")
 }
 
-/// What a text of the real files writes in a mode on a target, by its name without `.tst`.
+/// Returns what a text of the real files writes in a mode on a target, by its name without `.tst`.
 pub fn written(
     rt: &(impl Files + Input + AllocGlobal),
     mode: &str,
@@ -111,7 +111,7 @@ pub fn written(
     Ok(Vec::from_slice(rt.alloc(), called.out.bytes())?)
 }
 
-// Whether a label `there` stands in a listing at an address, which a line feed may end.
+// Whether a label `there` is in a listing at an address, which a line feed may end.
 fn has_label(alloc: Global, listing: &[u8], address: &[u8]) -> Result<bool, OutOfMemory> {
     let address = str::from_utf8(address).unwrap_or("").trim_end();
     let line = format!(in alloc; "\n{address} there:\n")?;

@@ -1,7 +1,8 @@
-// What calls of the program come to, by the files of `data`: `cases` has texts with what they write and how they end, or whose code is to do what they mean;
-// `properties` asks of some of them, on each target of `targets.txt`, that their profile adds up, that their listing is read back, and that their code runs on
-// a stack that is disturbed between any two instructions; `called` calls code by the targets' calling conventions; `any_text` takes any bytes for a text, and
-// `changed_listings` any for a listing; `edges` has what is in no table. Prints what each part found. The status is 0 exactly where all calls of the cases are right.
+// The outcomes of calls of the program, by the files of `data`: `cases` has texts with what they write and how they end, or whose code is to do what they
+// mean; `properties` asks of some of them, on each target of `targets.txt`, that their profile adds up, that their listing is read back, and that their code
+// runs on a stack that is disturbed between any two instructions; `called` calls code by the targets' calling conventions; `any_text` takes any bytes for a
+// text, and `changed_listings` any for a listing; `edges` has what is in no table. Prints what each part found. The status is 0 exactly where all calls of
+// the cases are right.
 #![tactic(auto)]
 
 ghost use Rattle.std.specs.Prelude.{◌≡◌};
@@ -34,14 +35,14 @@ use properties::try_texts;
 use std::process::ExitCode;
 use std::{fs, io};
 
-// The status that the program ends with.
+// Returns the status that the program ends with.
 fn exit_code(all: bool) -> ExitCode
     ensures { exit_status result ≡ status_of all }
 {
     ExitCode::from(if all { 0 } else { 1 })
 }
 
-// Tries what stands in no table of cases, on these targets.
+// Tries what is in no table of cases, on these targets.
 fn try_others(rt: &HostRuntime, targets: &str) -> io::Result<()> {
     try_texts(rt, targets)?;
     call_texts(rt, targets)?;

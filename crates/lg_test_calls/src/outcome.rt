@@ -1,12 +1,12 @@
-// What a call that is compared comes to.
+// The outcome of a call that is compared.
 
 ghost use Rattle.std.specs.Prelude.{◌≡◌};
 
 use crate::form::has_form;
 use std::fmt;
 
-/// What a call should write to the standard output, the form of its lines on the standard error, in which `#` stands for any number and `+` for any but 0,
-/// and the status that it should end with.
+/// What a call should write to the standard output, the form of its lines on the standard error, in which `#` denotes any number and `+` for any but 0, and
+/// the status that it should end with.
 #[derive(Clone, Copy)]
 pub struct Wanted<'a> {
     pub output: &'a [u8],
@@ -14,7 +14,7 @@ pub struct Wanted<'a> {
     pub status: u8,
 }
 
-/// What a call comes to.
+/// The outcome of a call.
 #[derive(Clone, Copy)]
 pub enum Outcome {
     /// It writes and ends as it should.
@@ -41,7 +41,7 @@ impl fmt::Display for Outcome {
     }
 }
 
-/// How many lines end before the first byte in which two outputs differ.
+/// Returns how many lines end before the first byte in which two outputs differ.
 pub fn same_lines(left: &[u8], right: &[u8]) -> usize {
     let mut lines: usize = 0;
     for (a, b) in left.iter().zip(right.iter()) {
@@ -55,7 +55,7 @@ pub fn same_lines(left: &[u8], right: &[u8]) -> usize {
     lines
 }
 
-/// What a call comes to that wrote so and ended with a status.
+/// Returns the outcome of a call that wrote so and ended with a status.
 pub fn outcome_of(wanted: Wanted<'_>, output: &[u8], lines: &[u8], status: u8) -> Outcome
     ensures output { result ≡ Outcome.IsRight → output.now ≡ wanted.entry.output.now }
     ensures status { result ≡ Outcome.IsRight → status ≡ wanted.entry.status }

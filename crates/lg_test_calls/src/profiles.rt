@@ -16,7 +16,7 @@ struct Sums {
     steps: u64,
 }
 
-// The sums of what a call wrote to the standard error.
+// Returns the sums of what a call wrote to the standard error.
 fn sums_of(call: &Called) -> Sums {
     let mut sums = Sums {
         meant: 0,
@@ -34,7 +34,7 @@ fn sums_of(call: &Called) -> Sums {
     sums
 }
 
-// Whether a profile comes to what a run comes to, and adds up to its steps and those of the meaning.
+// Returns whether a profile agrees with the outcome of a run, and adds up to its steps and those of the meaning.
 fn are_same(run: &Called, meant: u64, profile: &Called) -> bool {
     let sums = sums_of(profile);
     run.answer == profile.answer
@@ -55,7 +55,7 @@ fn meant_steps(
     Ok(sums_of(&meaning).steps)
 }
 
-// Whether the profile of a text adds up to a run and to so many steps of the meaning.
+// Whether the profile of a text adds up to a run and to this many steps of the meaning.
 fn adds_up_to(
     rt: &(impl Files + Input + AllocGlobal),
     target: &str,

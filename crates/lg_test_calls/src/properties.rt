@@ -1,7 +1,7 @@
-// What is asked of each text of the files `examples` and `stacks` on each target. In the mode `profile` it writes, ends and takes as many steps as in the mode
-// `run`, and the numbers of the lines add up to these steps and to those of the meaning. Its listing is read back to the bytes that its hexadecimal digits
-// spell. And where what lies below the stack pointer and the target's zone is written over before each step, as by a signal, it writes and ends as without.
-// Prints each text of which one is not so, and for each target of how many each is.
+// What is asked of each text of the files `examples` and `stacks` on each target. In the mode `profile` it writes, ends and takes as many steps as in the
+// mode `run`, and the numbers of the lines add up to these steps and to those of the meaning. Its listing is read back to the bytes that its hexadecimal
+// digits spell. And where what lies below the stack pointer and the target's zone is written over before each step, as by a signal, it writes and ends as
+// without. Prints each text for which one is not so, and for each target of how many each is.
 
 use crate::cases::case::{Case, parse_case};
 use crate::cases::unfolded::unfolded;
@@ -65,7 +65,7 @@ fn try_text(
     )
 }
 
-// The text of a case.
+// Returns the text of a case.
 fn text_of(rt: &(impl Files + AllocGlobal), head: &str, case: Case<'_>) -> io::Result<Vec<u8>> {
     if case.is_of_files() {
         fs::read(rt, case.name)

@@ -1,4 +1,4 @@
-// What calls come to, counted.
+// The outcomes of calls, counted.
 
 ghost use Rattle.std.specs.Prelude.{◌<◌};
 
@@ -12,7 +12,7 @@ use std::io;
 // How many kinds of refusal are counted, by their numbers.
 const KINDS: usize = 32;
 
-// What is printed behind how many calls came to each answer.
+// What is printed after how many calls came to each answer.
 const NAMES: [&str; 8] = [
     " ended, ",
     " listed, ",
@@ -66,7 +66,7 @@ fn place_of(answer: Answer) -> usize
     }
 }
 
-// Whether a line on the standard error is one that an answer at a place has: none at an end or a listing, else one line of the program.
+// Returns whether a line on the standard error is one that an answer at a place has: none at an end or a listing, else one line of the program.
 fn is_line_of(place: usize, line: &[u8]) -> bool
     requires { place < 8 }
 {
@@ -113,7 +113,7 @@ impl Tally {
     }
 }
 
-/// Makes a call on a text, and counts what it comes to.
+/// Makes a call on a text, and counts its outcome.
 pub fn count_call(
     alloc: Global,
     words: &Vec<String>,

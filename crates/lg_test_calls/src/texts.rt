@@ -1,4 +1,4 @@
-// Texts as they stand in `examples`, with what they mean by the definitions.
+// Texts as they are in `examples`, with what they mean by the definitions.
 
 ghost use Rattle.std.specs.Prelude.{◌∷◌, []};
 ghost use Rattle.lg_test_calls.specs.Meant.{Means};

@@ -7,7 +7,7 @@ use lg_base::{ArgImage, Stop, args_image};
 use std::alloc::{AllocError, Global};
 use std::test::Fail;
 
-// Words, each a piece so many times; how many bytes the part has, with its first ones; and else the kind and the line of the refusal.
+// Words, each a piece this many times; how many bytes the part has, with its first ones; and else the kind and the line of the refusal.
 type Case = (
     &'static [(&'static str, u32)],
     u32,
@@ -26,7 +26,7 @@ const CASES: &[Case] = &[
         ],
         b"",
     ),
-    // a word of 1,048,559 letters, and it with the empty word behind it
+    // a word of 1,048,559 letters, and it with the empty word after it
     (
         &[("x", 1_048_559)],
         1_048_576,
@@ -36,7 +36,7 @@ const CASES: &[Case] = &[
     (&[("x", 1_048_559), ("", 1)], 0, &[], b"ArgsTooLong 0"),
 ];
 
-// The argument part. What it is promised to be is for proofs, and of no use here.
+// Returns the argument part. What it is promised to be is for proofs, and of no use here.
 fn part_of(alloc: Global, words: &Vec<String>) -> Result<ArgImage, Stop> {
     if words.is_empty() {
         return Err(Stop::OutOfMemory);
@@ -44,7 +44,7 @@ fn part_of(alloc: Global, words: &Vec<String>) -> Result<ArgImage, Stop> {
     args_image(alloc, words)
 }
 
-// Whether words are laid out so, or refused so.
+// Returns whether words are laid out so, or refused so.
 fn are_laid_out(alloc: Global, words: &Vec<String>, case: &Case) -> bool {
     let (_, size, front, refusal) = case;
     match part_of(alloc, words) {
@@ -53,7 +53,7 @@ fn are_laid_out(alloc: Global, words: &Vec<String>, case: &Case) -> bool {
     }
 }
 
-// A piece so many times.
+// A piece this many times.
 fn word_of(alloc: Global, piece: &str, times: u32) -> Result<String, AllocError> {
     let mut word = String::new(alloc);
     for _ in 0..times {
@@ -76,7 +76,7 @@ fn is_right(alloc: Global, case: &Case) -> Result<bool, AllocError> {
     Ok(are_laid_out(alloc, &words, case))
 }
 
-// The number of the first case that is not so.
+// Returns the number of the first case that is not so.
 fn first_other(alloc: Global) -> Result<Option<usize>, AllocError> {
     for (number, case) in CASES.iter().enumerate() {
         if !is_right(alloc, case)? {

@@ -1,4 +1,4 @@
-// A full buffer, labels that are bound behind their fixes, and each kind of fix at the edges of its reach. The words
+// A full buffer, labels that are bound after their fixes, and each kind of fix at the edges of its reach. The words
 // are those that `llvm-mc` 14 gives for these instructions.
 
 ghost use Rattle.std.specs.Prelude.{◌≡◌, ◌+◌, ◌<◌, ◌++◌, ◌∷◌, [], length, replicate, None, IsTrue};
@@ -25,7 +25,7 @@ fn branch_to(buf: &mut CodeBuf, label: Label32) -> bool
     true
 }
 
-// Appends a branch to a label behind it, a nop, and a branch to a label at the start.
+// Appends a branch to a label after it, a nop, and a branch to a label at the start.
 fn put_branches(buf: &mut CodeBuf) -> bool
     requires labels { buf.old.labels ≡ replicate 3 None }
     requires room { buf.old.room ≡ 2 }
@@ -59,7 +59,7 @@ fn leads_to_labels(alloc: Global) -> Result<bool, OutOfMemory> {
 // How many zeros are appended at once.
 const PIECE: usize = 0x10_0000;
 
-// Appends so many zeros.
+// Appends this many zeros.
 fn pad(buf: &mut CodeBuf, zeros: &[u8], count: usize) -> bool {
     for _ in 0..count / PIECE {
         if !buf.emit(zeros) {
@@ -75,12 +75,12 @@ fn pad(buf: &mut CodeBuf, zeros: &[u8], count: usize) -> bool {
 // A fix with its place and its target; the place of code with the fix, the code, and what it becomes, or None where the fix cannot be patched.
 type Patch = (FixKind, u32, u32, u32, &'static [u8], Option<&'static [u8]>);
 
-// The place behind the code of a row.
+// Returns the place after the code of a row.
 fn end_of(row: &Patch) -> u32 {
     row.3.saturating_add(row.4.len().min(16) as u32)
 }
 
-// Patches the fix of a row, where it lies within what was appended, and tells whether it is patched where it should be.
+// Patches the fix of a row, where it lies within what was appended, and returns whether it is patched where it should be.
 fn patches(buf: &mut CodeBuf, row: &Patch) -> bool {
     let (kind, place, target, _, _, wanted) = *row;
     let is_within = place as u64 + kind.size() as u64 <= buf.here() as u64;
@@ -101,7 +101,7 @@ fn fills(buf: &mut CodeBuf, zeros: &[u8], row: &Patch) -> bool
         && buf.is_ready()
 }
 
-// Whether finished code of a row is what it should become, and its one label stays at 0.
+// Returns whether finished code of a row is what it should become, and its one label stays at 0.
 fn is_done(done: &Finished, row: &Patch) -> bool {
     let becomes = row.5.unwrap_or(row.4);
     let behind = done.bytes.as_slice().get(row.3 as usize..);
@@ -337,7 +337,7 @@ const PATCHES: &[Patch] = &[
         &[0x09, 0x00, 0x80, 0xd2, 0x09, 0x00, 0xa0, 0xf2],
         None,
     ),
-    // jmp8; jmp32, of which the last leads 2,147,483,648 bytes back; movi32 of r9
+    // jmp8; jmp32, the last of which leads 2,147,483,648 bytes back; movi32 of r9
     (
         FixKind::X86Rel8,
         127,
@@ -414,7 +414,7 @@ const PATCHES: &[Patch] = &[
     ),
 ];
 
-// Whether a target lies one place beyond the reach.
+// Returns whether a target lies one place beyond the reach.
 fn is_beyond(kind: FixKind, place: u32) -> bool {
     !kind.fits(place, 0)
 }

@@ -5,7 +5,7 @@ use lg_cells::*;
 use std::alloc::Global;
 use std::test::Fail;
 
-// Whether a memory with a data part of eight bytes and an argument part of one is told as it was made.
+// Returns whether a memory with a data part of eight bytes and an argument part of one is as it was made.
 fn are_parts_told(memory: &CellMemory) -> bool {
     memory.load(0x2000_0000, 4) == Some(0x0403_0201)
         && memory.load(0x2000_0004, 8) == None
@@ -13,7 +13,7 @@ fn are_parts_told(memory: &CellMemory) -> bool {
         && !memory.can_store(0x3000_0000, 1)
 }
 
-// Whether the heap, up to 0x3000_0010, can be written, and its first byte is told once it is.
+// Returns whether the heap, up to 0x3000_0010, can be written, and its first byte is read once it is.
 fn is_heap_told(memory: &mut CellMemory) -> bool {
     memory.can_store(0x3000_0008, 8)
         && !memory.can_store(0x3000_000c, 8)

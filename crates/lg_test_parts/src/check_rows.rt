@@ -1,5 +1,5 @@
-// Texts that are accepted once they are read, and texts that the checks refuse with a kind and a line, worked out by hand from the rules of
-// functions, labels and calls.
+// Texts that are accepted once they are read, and texts that the checks refuse with a kind and a line, computed by hand from the rules of functions, labels
+// and calls.
 
 use crate::rows::{Kind, Table};
 

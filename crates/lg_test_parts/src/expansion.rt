@@ -10,7 +10,7 @@ use lg_base::Stop;
 use lg_pre::{PlainText, expand};
 use std::alloc::Global;
 
-// The expansion of a text.
+// Returns the expansion of a text.
 fn expanded(alloc: Global, text: &[u8]) -> Result<PlainText, Stop> {
     if text.len() > 16_777_216 {
         return Err(Stop::OutOfMemory);
@@ -18,7 +18,7 @@ fn expanded(alloc: Global, text: &[u8]) -> Result<PlainText, Stop> {
     expand(alloc, text)
 }
 
-/// Whether this is the expansion, or the kind and the line of the refusal.
+/// Returns whether this is the expansion, or the kind and the line of the refusal.
 pub(crate) fn gives(alloc: Global, text: &[u8], wanted: Wanted) -> bool {
     match expanded(alloc, text) {
         Ok(given) => are_wanted(given.as_slice(), wanted),
@@ -26,7 +26,7 @@ pub(crate) fn gives(alloc: Global, text: &[u8], wanted: Wanted) -> bool {
     }
 }
 
-// How many line feeds bytes have.
+// Returns how many line feeds bytes have.
 fn feeds(bytes: &[u8]) -> usize {
     let mut feeds = 0usize;
     for byte in bytes {

@@ -9,7 +9,7 @@ use std::test::Fail;
 
 const DATA: u64 = 0x2000_0000;
 
-// Where a format stands behind `text`.
+// Where a format is after `text`.
 const FORMAT: u64 = DATA + 5;
 
 const HEAP: u64 = 0x3000_0000;
@@ -279,10 +279,10 @@ const CALLS: &[(&[u8], HostName, &[u64], HostEnd)] = &[
     (b"", HostName::Abort, &[], HostEnd::Exit(134)),
 ];
 
-// A function with its words, what it answers, and how much of the heap is handed out behind it.
+// A function with its words, what it answers, and how much of the heap is allocated after it.
 type Turn = (HostName, &'static [u64], u64, u64);
 
-// Calls behind which the words of the heap are those below: what `calloc` hands out is zero, and the bytes behind that it rounds up to stay.
+// Calls after which the words of the heap are those below: what `calloc` allocates is zero, and the bytes after that it rounds up to stay.
 const ZEROES: &[Turn] = &[
     (HostName::Calloc, &[5, 4], HEAP, 0x20),
     (HostName::Calloc, &[0, 9], HEAP + 0x20, 0x30),
@@ -342,7 +342,7 @@ fn ends(
     Ok(end == wanted.0 && is_written(out.bytes(), wanted.1))
 }
 
-// Whether these bytes are written, where that is asked.
+// Returns whether these bytes are written, where that is asked.
 fn is_written(bytes: &[u8], wanted: Option<&[Piece]>) -> bool {
     match wanted {
         Some(pieces) => are_of(bytes, pieces),
@@ -408,7 +408,7 @@ fn prints_what_c_prints(rt: HostRuntime) -> Result<(), Fail> {
     Ok(())
 }
 
-// Whether the functions, called one after another over one memory and one heap, answer so.
+// Returns whether the functions, called one after another over one memory and one heap, answer so.
 fn are_answered(memory: &mut Memory, out: &mut MemorySink, turns: &[Turn]) -> bool {
     let mut heap = HeapMark::new();
     for (name, words, wanted, handed) in turns {
@@ -420,7 +420,7 @@ fn are_answered(memory: &mut Memory, out: &mut MemorySink, turns: &[Turn]) -> bo
     true
 }
 
-// Whether the heap holds these words.
+// Returns whether the heap holds these words.
 fn holds(memory: &Memory, words: &[(u64, u64)]) -> bool {
     for (place, wanted) in words {
         if memory.load(HEAP.wrapping_add(*place), 4) != Some(*wanted) {
@@ -430,7 +430,7 @@ fn holds(memory: &Memory, words: &[(u64, u64)]) -> bool {
     true
 }
 
-// Whether the heap is handed out so, zeroed as it should be, and what is put there is written.
+// Returns whether the heap is allocated so, zeroed as it should be, and what is put there is written.
 fn is_handed_out(memory: &mut Memory, out: &mut MemorySink) -> bool {
     for place in 0..64 {
         memory.put(HEAP + place, 0xff);
@@ -457,7 +457,7 @@ fn end_so(alloc: Global) -> Result<bool, OutOfMemory> {
     Ok(true)
 }
 
-// The same, and whether the heap is handed out.
+// The same, and whether the heap is allocated.
 fn are_calls_right(alloc: Global) -> Result<bool, OutOfMemory> {
     Ok(end_so(alloc)? && is_heap_handed_out(alloc)?)
 }

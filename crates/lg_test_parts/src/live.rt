@@ -43,7 +43,7 @@ const USES: &[(&[u8], &[Operand], (u8, u8))] = &[
     (b"epilog", &[], (0, 0)),
 ];
 
-// The first operation of the table that reads or writes others.
+// Returns the first operation of the table that reads or writes others.
 fn first_other_use() -> Option<&'static [u8]> {
     for (name, operands, wanted) in USES {
         if operands.len() > 4 || used(name, operands) != Some(*wanted) {
@@ -53,7 +53,7 @@ fn first_other_use() -> Option<&'static [u8]> {
     None
 }
 
-// Whether a set holds the registers that were put in, but FP, which is none of the six.
+// Returns whether a set holds the registers that were put in, but FP, which is none of the six.
 fn are_registers_held() -> bool {
     let set = RegSet::none().with(Reg::V2).with(Reg::R1).with(Reg::Fp);
     let has_them = set.has(Reg::R1) && !set.has(Reg::R0) && !set.has(Reg::Fp);

@@ -17,7 +17,7 @@ const STORES: &[Store] = &[
     (0x3FFF_FFFF, 1, 0x1FF, true),
 ];
 
-// Loads behind these stores: no part touches another.
+// Loads after these stores: no part touches another.
 const LOADS: &[Load] = &[
     (0x2000_0000, 2, Some(0)),
     (0x2000_0000, 4, None),
@@ -37,7 +37,7 @@ const LOADS_OF_PARTS: &[Load] = &[
     (0x2800_0000, 4, Some(0x7367_7261)),
 ];
 
-// Whether the rows of a table are answered so.
+// Returns whether the rows of a table are answered so.
 fn loads_are(memory: &Memory, loads: &[Load]) -> bool {
     for (address, width, wanted) in loads {
         let found = match width {
@@ -64,7 +64,7 @@ fn stores_are(memory: &mut Memory, stores: &[Store]) -> bool {
     true
 }
 
-// Whether single bytes are told and put.
+// Returns whether single bytes are read and put.
 fn bytes_are_put(memory: &mut Memory) -> bool {
     memory.get(0x3FFF_FFFF) == Some(0xFF)
         && memory.can_put(0x3000_0000)

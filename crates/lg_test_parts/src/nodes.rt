@@ -39,14 +39,14 @@ fn is_list_right(alloc: Global) -> Result<bool, OutOfMemory> {
 // A function with a local of 12 bytes and a label whose address is taken, a node a line.
 const FUNCTION: &[u8] = b"prolog\nallocai 12 $l\nmovi %r0 there\nthere: epilog";
 
-// The shape of a unit, made anew once it is checked.
+// Returns the shape of a unit, made anew once it is checked.
 fn shape_again(alloc: Global, unit: &Unit) -> Result<Shape, Stop> {
     let shape = check(alloc, unit)?;
     let again = reshape(alloc, &unit.nodes, &shape)?;
     Ok(again)
 }
 
-// Whether a shape is that of the function.
+// Returns whether a shape is that of the function.
 fn is_of_function(shape: &Shape) -> bool {
     shape.functions() == 1
         && (shape.entry(0), shape.last(0)) == (0, 3)

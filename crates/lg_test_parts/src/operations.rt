@@ -101,7 +101,7 @@ const OPERATIONS: &[(&[u8], Option<Op>)] = &[
     (b"jmp", None),
 ];
 
-// Whether an operation's node with these operands is in form.
+// Returns whether an operation's node with these operands is in form.
 fn takes(word: &[u8], operands: &[Operand]) -> bool {
     if operands.len() > 4 {
         return false;
@@ -180,7 +180,7 @@ const TAKEN: &[(&[u8], &[Operand], bool)] = &[
     (b"getarg", &[R0, SEVEN], false),
 ];
 
-// Whether the words name these operations, or none.
+// Returns whether the words name these operations, or none.
 fn are_named() -> bool {
     for (word, op) in OPERATIONS {
         if Op::by_name(word) != *op {
@@ -190,7 +190,7 @@ fn are_named() -> bool {
     true
 }
 
-// Whether each operation takes the operands that it should, and no others.
+// Returns whether each operation takes the operands that it should, and no others.
 fn are_taken() -> bool {
     for (word, operands, taken) in TAKEN {
         if takes(word, operands) != *taken {

@@ -41,7 +41,7 @@ const INSTRUCTIONS: &str =
 // A text of `prolog`, and 1,048,575 times `ret` in lines of their own.
 const FULL: &[Piece] = &[Piece::Of(b"prolog"), Piece::Times(b"\nret", 1_048_575)];
 
-// What stands behind 1,048,576 nodes, and what comes of the whole text.
+// What is after 1,048,576 nodes, and what comes of the whole text.
 const BEHIND_THE_LAST_NODE: &str = "1048576\x1f x: .data 1 .align 1 note\x1e\
         TooManyNodes 1048576\x1f ret\x1e\
         TooManyNodes 1048576\x1f movi\x1e\
@@ -51,7 +51,7 @@ const BEHIND_THE_LAST_NODE: &str = "1048576\x1f x: .data 1 .align 1 note\x1e\
 
 const TABLES: &[Table] = &[(Kind::Nodes, FULL, BEHIND_THE_LAST_NODE)];
 
-// A text of 16,777,216 bytes of data, and a label behind them.
+// A text of 16,777,216 bytes of data, and a label after them.
 const FULL_DATA: &[Piece] = &[
     Piece::Of(b".data 16777216 .c \""),
     Piece::Times(b"a", 16_777_151),
@@ -91,8 +91,8 @@ type Last = (u32, Option<Operand>);
 // A text, the places of its labels, and the lines and last operands of its nodes.
 type Reading = (&'static [Piece], &'static [Place], &'static [Last]);
 
-// Labels, bound to nodes and bytes; a local that stands at -144; arguments and locals at -136, -152 and, in the second function, -136; numbers of the first
-// variable argument, which count the `arg`s since the `prolog`; and a label behind the largest data.
+// Labels, bound to nodes and bytes; a local that is at -144; arguments and locals at -136, -152 and, in the second function, -136; numbers of the first
+// variable argument, which count the `arg`s since the `prolog`; and a label after the largest data.
 const READINGS: &[Reading] = &[
     (
         &[Piece::Of(b"prolog f: jmpi g .data 16 .c 1 x: .align 8 y: .c 1 z: .code ret g:")],
@@ -155,7 +155,7 @@ const READINGS: &[Reading] = &[
     (FULL_DATA, &[Place::Image(16_777_216)], &[]),
 ];
 
-// Whether the labels of nodes have these places.
+// Returns whether the labels of nodes have these places.
 fn are_bound(nodes: &NodeList, places: &[Place]) -> bool {
     for label in 0..nodes.labels() {
         if nodes.place(Label(label)) != places.get(label as usize).copied() {
@@ -165,7 +165,7 @@ fn are_bound(nodes: &NodeList, places: &[Place]) -> bool {
     nodes.labels() as usize == places.len()
 }
 
-// Whether the nodes have these lines and last operands.
+// Returns whether the nodes have these lines and last operands.
 fn end_so(nodes: &NodeList, ends: &[Last]) -> bool {
     for index in 0..nodes.len() {
         let Node { operands, line, .. } = nodes.node(index);
@@ -187,7 +187,7 @@ fn is_read_so(alloc: Global, reading: &Reading) -> Result<bool, AllocError> {
     }
 }
 
-// Whether a node is that of an instruction, in a line of its own.
+// Returns whether a node is that of an instruction, in a line of its own.
 fn is_instruction(node: &Node, instruction: &str, index: u32) -> bool {
     let (name, _) = instruction.split_once(' ').unwrap_or((instruction, ""));
     let own = name.strip_suffix("_l").unwrap_or(name);
@@ -196,7 +196,7 @@ fn is_instruction(node: &Node, instruction: &str, index: u32) -> bool {
         && node.line == index.wrapping_add(1)
 }
 
-// Whether the nodes are those of the instructions.
+// Returns whether the nodes are those of the instructions.
 fn are_instructions(nodes: &NodeList) -> bool {
     let mut index = 0u32;
     for instruction in INSTRUCTIONS.lines() {
@@ -208,7 +208,7 @@ fn are_instructions(nodes: &NodeList) -> bool {
     (index, nodes.len()) == (206, 206)
 }
 
-// Whether every instruction is read.
+// Returns whether every instruction is read.
 fn is_every_instruction_read(alloc: Global) -> bool {
     match read(alloc, INSTRUCTIONS.as_bytes()) {
         Ok(unit) => are_instructions(&unit.nodes),

@@ -21,23 +21,23 @@ const ARGS: [u8; 18] = [16, 0, 0, 0x28, 0, 0, 0, 0, 0, 0, 0, 0, 0, 0, 0, 0, b'-'
 enum Act {
     // A register gets a word.
     Set(u8, u64),
-    // So many bytes are stored at an address: the low ones of a number.
+    // This many bytes are stored at an address: the low ones of a number.
     Store(u64, u32, u64),
     // The program counter gets an address.
     Jump(u64),
     // The code becomes another.
     Code(&'static [u8]),
-    // So many steps come to this answer.
+    // This many steps give this answer.
     Answer(u64, CpuStep),
     // The program counter, and how many steps were taken.
     At(u64, u64),
-    // Eleven steps come to this answer, and each leaves the program counter and the number of steps so.
+    // Eleven steps give this answer, and each leaves the program counter and the number of steps so.
     Stay(CpuStep, u64, u64),
     // A register holds a word.
     Hold(u8, u64),
     // This is all that was written.
     Write(&'static [u8]),
-    // So many writes failed.
+    // This many writes failed.
     Fail(u64),
     // Not all of the eight bytes at an address lie in one part of the memory.
     Lack(u64),
@@ -69,7 +69,7 @@ const RUNS: &[Run] = &[
             Act::At(0x0fe0_0000, 6),
         ],
     ),
-    // the format "%d%d%d%d%d%d%d%d", of which the last number lies in a stack word, and a stack without one
+    // the format "%d%d%d%d%d%d%d%d", the last of which number lies in a stack word, and a stack without one
     (
         Target::Riscv64,
         &[],
@@ -100,7 +100,7 @@ const RUNS: &[Run] = &[
             Act::Write(b"12345678"),
         ],
     ),
-    // a write that fails is told again and again where it failed, and the processor goes on with other code
+    // a write that fails is reported again and again where it failed, and the processor goes on with other code
     (
         Target::Riscv64,
         &[],
@@ -182,7 +182,7 @@ const RUNS: &[Run] = &[
             Act::Stay(CpuStep::Fault(FaultKind::Fetch), CODE, 0),
         ],
     ),
-    // nop, with nothing behind it
+    // nop, with nothing after it
     (
         Target::X86_64,
         &[0x90],
@@ -287,7 +287,7 @@ fn step(cpu: &mut Cpu, out: &mut MemorySink) -> CpuStep {
     }
 }
 
-// Whether so many steps come to this answer.
+// Returns whether this many steps give this answer.
 fn answers(cpu: &mut Cpu, out: &mut MemorySink, steps: u64, answer: CpuStep) -> bool {
     for _ in 0..steps {
         if step(cpu, out) != answer {
@@ -297,7 +297,7 @@ fn answers(cpu: &mut Cpu, out: &mut MemorySink, steps: u64, answer: CpuStep) -> 
     true
 }
 
-// Whether eleven steps come to this answer, and each leaves the program counter and the number of steps so.
+// Returns whether eleven steps give this answer, and each leaves the program counter and the number of steps so.
 fn stays(cpu: &mut Cpu, out: &mut MemorySink, answer: CpuStep, place: (u64, u64)) -> bool {
     for _ in 0..11 {
         if step(cpu, out) != answer || (cpu.pc(), cpu.steps()) != place {
@@ -321,7 +321,7 @@ fn replace(alloc: Global, cpu: &mut Cpu, code: &[u8]) -> bool {
     }
 }
 
-// Whether something that is asked is so.
+// Returns whether something that is asked is so.
 fn is_so(cpu: &Cpu, out: &MemorySink, act: &Act) -> bool {
     match act {
         Act::At(pc, steps) => (cpu.pc(), cpu.steps()) == (*pc, *steps),
@@ -333,7 +333,7 @@ fn is_so(cpu: &Cpu, out: &MemorySink, act: &Act) -> bool {
     }
 }
 
-// Does what is to be done, where that can be, or tells whether what is asked is so.
+// Does what is to be done, where that can be, or says whether what is asked is so.
 fn holds(alloc: Global, cpu: &mut Cpu, out: &mut MemorySink, act: &Act) -> bool {
     match act {
         Act::Set(number, word) if *number < 32 => {
@@ -352,7 +352,7 @@ fn holds(alloc: Global, cpu: &mut Cpu, out: &mut MemorySink, act: &Act) -> bool 
     }
 }
 
-// Whether all of this is done and so, one after the other.
+// Returns whether all of this is done and so, one after the other.
 fn hold(alloc: Global, cpu: &mut Cpu, out: &mut MemorySink, acts: &[Act]) -> bool {
     for act in acts {
         if !holds(alloc, cpu, out, act) {

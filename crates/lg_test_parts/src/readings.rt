@@ -1,4 +1,4 @@
-// Texts that are read, and texts that are refused with a kind and a line, worked out by hand from the rules of statements.
+// Texts that are read, and texts that are refused with a kind and a line, computed by hand from the rules of statements.
 
 use crate::rows::{Kind, Table};
 

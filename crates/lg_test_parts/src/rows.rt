@@ -1,4 +1,4 @@
-// Rows of tables: what is wanted of a text, and the text; and what is made of texts.
+// Rows of tables: what is expected of a text, and the text; and what is made of texts.
 
 use crate::{check_rows, expansion, parse_rows, readings, tokens, units};
 use lg_base::{Refusal, Stop};
@@ -30,27 +30,27 @@ pub(crate) enum Kind {
 pub(crate) enum Piece {
     /// Bytes.
     Of(&'static [u8]),
-    /// Bytes so many times.
+    /// Bytes this many times.
     Times(&'static [u8], u32),
-    /// The definitions of so many names, each by the one before: `a1` and so on. Nothing that comes of a text has it.
+    /// The definitions of this many names, each by the one before: `a1` and so on. Nothing that comes of a text has it.
     Names(u32),
 }
 
 /// A table: what is made of texts, what each begins with, and rows. A row is what comes of a text, then 1F and the text; between rows stands 1E.
 pub(crate) type Table = (Kind, &'static [Piece], &'static str);
 
-/// What should come of a text: bytes, and pieces behind them.
+/// What should come of a text: bytes, and pieces after them.
 pub(crate) type Wanted = (&'static [u8], &'static [Piece]);
 
 /// What is made of a text, the text, and what comes of it.
 pub(crate) type Made = (Kind, &'static [Piece], Wanted);
 
-/// Whether bytes are the digits of a number.
+/// Returns whether bytes are the digits of a number.
 pub(crate) fn are_digits(bytes: &[u8], number: u64) -> bool {
     bytes == Digits::of(number, Radix::Decimal).as_slice()
 }
 
-/// Whether bytes are the kind and the line of a refusal, with a blank between.
+/// Returns whether bytes are the kind and the line of a refusal, with a blank between.
 pub(crate) fn is_refusal(refusal: Refusal, wanted: &[u8]) -> bool {
     let name = refusal.kind.name().as_bytes();
     match wanted.get(name.len()..) {
@@ -61,7 +61,7 @@ pub(crate) fn is_refusal(refusal: Refusal, wanted: &[u8]) -> bool {
     }
 }
 
-/// Whether a text should come to this stop.
+/// Returns whether a text should result in this stop.
 pub(crate) fn is_stop(stop: Stop, wanted: Wanted) -> bool {
     match stop {
         Stop::Refused(refusal) => is_refusal(refusal, wanted.0),
@@ -69,7 +69,7 @@ pub(crate) fn is_stop(stop: Stop, wanted: Wanted) -> bool {
     }
 }
 
-// What stands behind bytes so many times.
+// What is after bytes this many times.
 fn behind<'a>(text: &'a [u8], bytes: &[u8], times: u32) -> Option<&'a [u8]> {
     let mut rest = text;
     for _ in 0..times {
@@ -81,7 +81,7 @@ fn behind<'a>(text: &'a [u8], bytes: &[u8], times: u32) -> Option<&'a [u8]> {
     Some(rest)
 }
 
-// What stands behind a piece.
+// What is after a piece.
 fn behind_piece<'a>(text: &'a [u8], piece: &Piece) -> Option<&'a [u8]> {
     match piece {
         Piece::Of(bytes) => behind(text, bytes, 1),
@@ -90,7 +90,7 @@ fn behind_piece<'a>(text: &'a [u8], piece: &Piece) -> Option<&'a [u8]> {
     }
 }
 
-/// Whether bytes are those of pieces.
+/// Returns whether bytes are those of pieces.
 pub(crate) fn are_of(bytes: &[u8], pieces: &[Piece]) -> bool {
     let mut rest = bytes;
     for piece in pieces {
@@ -102,7 +102,7 @@ pub(crate) fn are_of(bytes: &[u8], pieces: &[Piece]) -> bool {
     rest.is_empty()
 }
 
-/// Whether bytes are those that are wanted.
+/// Returns whether bytes are those that are expected.
 pub(crate) fn are_wanted(bytes: &[u8], wanted: Wanted) -> bool {
     match behind(bytes, wanted.0, 1) {
         Some(rest) => are_of(rest, wanted.1),
@@ -110,7 +110,7 @@ pub(crate) fn are_wanted(bytes: &[u8], wanted: Wanted) -> bool {
     }
 }
 
-// Whether this comes of a text.
+// Returns whether this comes of a text.
 fn gives(alloc: Global, kind: &Kind, text: &[u8], wanted: Wanted) -> bool {
     match kind {
         Kind::Tokens => tokens::gives(text, wanted.0),
@@ -121,7 +121,7 @@ fn gives(alloc: Global, kind: &Kind, text: &[u8], wanted: Wanted) -> bool {
     }
 }
 
-// Appends bytes so many times.
+// Appends bytes this many times.
 fn repeat(text: &mut Vec<u8>, bytes: &[u8], times: u32) -> Result<(), AllocError> {
     if let [byte] = bytes {
         return text.resize(text.len().saturating_add(times as usize), *byte);
@@ -132,7 +132,7 @@ fn repeat(text: &mut Vec<u8>, bytes: &[u8], times: u32) -> Result<(), AllocError
     Ok(())
 }
 
-// Appends the definitions of so many names.
+// Appends the definitions of this many names.
 fn push_names(alloc: Global, text: &mut Vec<u8>, names: u32) -> Result<(), AllocError> {
     text.extend_from_slice(b"#define a1 1\n")?;
     for name in 2..=names {
@@ -159,14 +159,14 @@ fn push_pieces(alloc: Global, text: &mut Vec<u8>, pieces: &[Piece]) -> Result<()
     Ok(())
 }
 
-/// The text of pieces.
+/// Returns the text of pieces.
 pub(crate) fn made(alloc: Global, pieces: &[Piece]) -> Result<Vec<u8>, AllocError> {
     let mut text = Vec::new(alloc);
     push_pieces(alloc, &mut text, pieces)?;
     Ok(text)
 }
 
-// Whether what is wanted comes of a text of pieces, and of bytes behind them.
+// Whether what is expected comes of a text of pieces, and of bytes after them.
 fn is_right(
     alloc: Global,
     kind: &Kind,
@@ -179,7 +179,7 @@ fn is_right(
     Ok(gives(alloc, kind, &text, wanted))
 }
 
-// Whether what a row wants comes of its text behind a beginning.
+// Whether what a row wants comes of its text after a beginning.
 fn is_row_right(
     alloc: Global,
     kind: &Kind,
@@ -196,7 +196,7 @@ fn is_row_right(
     )
 }
 
-// The first row of a table of which something else comes.
+// Returns the first row of a table that gives something else.
 fn first_other_row(alloc: Global, table: &Table) -> Result<Option<&'static str>, AllocError> {
     let (kind, before, rows) = table;
     for row in rows.split('\x1e') {
@@ -207,7 +207,7 @@ fn first_other_row(alloc: Global, table: &Table) -> Result<Option<&'static str>,
     Ok(None)
 }
 
-// The first row of tables of which something else comes.
+// Returns the first row of tables that gives something else.
 fn first_other(alloc: Global, tables: &[Table]) -> Result<Option<&'static str>, AllocError> {
     for table in tables {
         if let Some(row) = first_other_row(alloc, table)? {
@@ -227,7 +227,7 @@ fn first_other_of(alloc: Global, lists: &[&[Table]]) -> Result<Option<&'static s
     Ok(None)
 }
 
-// The number of the first text of pieces, from 0 on, of which something else comes.
+// Returns the number of the first text of pieces, from 0 on, that gives something else.
 fn first_other_made(alloc: Global, rows: &[Made]) -> Result<Option<usize>, AllocError> {
     for (number, (kind, text, wanted)) in rows.iter().enumerate() {
         if !is_right(alloc, kind, text, b"", *wanted)? {
@@ -237,7 +237,7 @@ fn first_other_made(alloc: Global, rows: &[Made]) -> Result<Option<usize>, Alloc
     Ok(None)
 }
 
-// The first row of which something else comes.
+// Returns the first row that gives something else.
 fn first_other_text(alloc: Global) -> Result<Option<&'static str>, AllocError> {
     let lists = [
         tokens::tables(),
@@ -267,7 +267,7 @@ fn makes_of_the_largest_texts_what_rows_say(rt: HostRuntime) -> Result<(), Fail>
     Ok(())
 }
 
-// The number of the first text of pieces of lists of which something else comes.
+// Returns the number of the first text of pieces of lists that gives something else.
 fn first_other_made_of(alloc: Global, lists: &[&[Made]]) -> Result<Option<usize>, AllocError> {
     for rows in lists {
         if let Some(number) = first_other_made(alloc, rows)? {

@@ -13,10 +13,10 @@ use std::{fs, io};
 
 const WRITTEN: &str = "lg_io_written.txt";
 
-// What is asked of texts, with the answer: a text is selected, or so many bytes are read, behind which the slice is as told, if that is not empty.
+// What is asked of texts, with the answer: a text is selected, or this many bytes are read, after which the slice is as given, if that is not empty.
 type Turn<'a> = (&'a str, Result<usize, TextFault>, &'a [u8]);
 
-// Makes the turns one after the other, with a slice to read into, and tells whether each is answered so. A turn without a name reads.
+// Makes the turns one after the other, with a slice to read into, and returns whether each is answered so. A turn without a name reads.
 fn turns_are<T: Texts>(texts: &mut T, into: &mut [u8], turns: &[Turn<'_>]) -> bool {
     for (name, wanted, bytes) in turns {
         let answer = match *name {
@@ -50,7 +50,7 @@ const WRITTEN_IS_READ: &[Turn<'static>] = &[
     ("-", Ok(0), b""),
 ];
 
-// Writes the file, in three parts of which one is empty.
+// Writes the file, in three parts one of which is empty.
 fn is_written(rt: &impl Files) -> io::Result<bool> {
     let mut sink = StdSink::new(fs::create(rt, WRITTEN)?);
     let is_done = write_parts(&mut sink, &[b"one ", b"", b"two"]).is_ok();
@@ -65,7 +65,7 @@ fn is_read<R: Files + Input>(texts: &mut StdTexts<'_, R>) -> bool {
         && texts.faults() == 1
 }
 
-// Whether the file is read back.
+// Returns whether the file is read back.
 fn is_read_back(rt: &(impl Files + Input)) -> bool {
     let mut texts = StdTexts::new(rt);
     is_read(&mut texts)
@@ -100,7 +100,7 @@ impl Write for Tired {
     }
 }
 
-// Whether each write that fails is counted.
+// Returns whether each write that fails is counted.
 fn are_faults_counted(sink: &mut StdSink<Tired>) -> bool {
     write_all(sink, b"abc") == Err(SinkFault::Failed)
         && sink.faults() == 1
@@ -113,7 +113,7 @@ fn is_writer_watched() -> bool {
     are_faults_counted(&mut sink)
 }
 
-// Texts of which the first with the name `a` is read, and calls that fail: the fourth and the sixth.
+// Texts the first of which with the name `a` is read, and calls that fail: the fourth and the sixth.
 const MEMORY_IS_READ: &[Turn<'static>] = &[
     ("b", Err(TextFault::Failed), b""),
     ("a", Ok(0), b""),
@@ -135,7 +135,7 @@ fn are_texts_read(alloc: Global) -> Result<bool, OutOfMemory> {
     are_added_and_read(&mut texts)
 }
 
-// Whether a sink with room for 5 bytes, whose second write fails, takes what it can.
+// Returns whether a sink with room for 5 bytes, whose second write fails, takes what it can.
 fn is_filled(sink: &mut MemorySink) -> bool {
     sink.write(b"ab") == Ok(2)
         && sink.write(b"cd") == Err(SinkFault::Failed)

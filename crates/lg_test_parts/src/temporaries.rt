@@ -17,7 +17,7 @@ fn node() -> Option<Node> {
     })
 }
 
-// the choices for one need, or two, where all registers are live and so many arguments are staged
+// the choices for one need, or two, where all registers are live and this many arguments are staged
 fn choices(target: Target, needs: &[Need], staged: u32) -> Option<(Choice, Option<Choice>)>
     requires { length needs.now ≤ 3 }
 {
@@ -37,7 +37,7 @@ fn choices(target: Target, needs: &[Need], staged: u32) -> Option<(Choice, Optio
     }
 }
 
-// Needs on a target with so many staged arguments, and what is chosen for the first, and for the second, if there is one.
+// Needs on a target with this many staged arguments, and what is chosen for the first, and for the second, if there is one.
 type Chosen = (Target, &'static [Need], u32, (Choice, Option<Choice>));
 
 const CHOSEN: &[Chosen] = &[

@@ -1,4 +1,4 @@
-// Tokens, values and refusals of texts that were worked out by hand from the grammar.
+// Tokens, values and refusals of texts that were computed by hand from the grammar.
 
 use crate::rows::{Kind, Made, Piece, Table, are_digits, is_refusal};
 use lg_base::{Refusal, RefusalKind};
@@ -184,7 +184,7 @@ const TABLES: &[Table] = &[
     (Kind::Tokens, &[], NO_EXPRESSIONS),
 ];
 
-// Texts with bytes from 0x80 on; the most times that a piece may stand in itself, and once more; and long expressions.
+// Texts with bytes from 0x80 on; the most times that a piece may be in itself, and once more; and long expressions.
 const MADE: &[Made] = &[
     (Kind::Tokens, &[Piece::Of(b"\x80")], (b"BadToken 1", &[])),
     (
@@ -322,7 +322,7 @@ fn next(lexer: &mut Lexer<'_>) -> Next {
     lexer.next()
 }
 
-// Whether bytes are the digits of a signed word.
+// Returns whether bytes are the digits of a signed word.
 fn is_number(word: u64, wanted: &[u8]) -> bool {
     match wanted {
         [b'-', digits @ ..] => { word.cast_signed() < 0 && are_digits(digits, word.wrapping_neg()) }
@@ -330,7 +330,7 @@ fn is_number(word: u64, wanted: &[u8]) -> bool {
     }
 }
 
-// Whether this should come of so many tokens, of which the last has a value.
+// Returns whether this should come of this many tokens, the last of which has a value.
 fn is_outcome(tokens: u32, value: u64, wanted: &[u8]) -> bool {
     match tokens {
         0 => wanted == b"nothing".as_slice(),
@@ -339,7 +339,7 @@ fn is_outcome(tokens: u32, value: u64, wanted: &[u8]) -> bool {
     }
 }
 
-/// Whether this is the value of a text's one token, or `nothing` where it has none, or the kind and the line of its first fault.
+/// Returns whether this is the value of a text's one token, or `nothing` where it has none, or the kind and the line of its first fault.
 pub(crate) fn gives(text: &[u8], wanted: &[u8]) -> bool {
     let Some(mut lexer) = lexer_of(text) else {
         return false;
@@ -355,7 +355,7 @@ pub(crate) fn gives(text: &[u8], wanted: &[u8]) -> bool {
     false
 }
 
-// Whether a lexer answers this again and again.
+// Returns whether a lexer answers this again and again.
 fn stays(lexer: &mut Lexer<'_>, end: Next) -> bool {
     for _ in 0..3 {
         if next(lexer) != end {
@@ -379,7 +379,7 @@ fn token(row: &Row) -> Token {
     }
 }
 
-// Whether a text has these tokens, and behind them again and again this end.
+// Returns whether a text has these tokens, and after them again and again this end.
 fn has_tokens(text: &[u8], rows: &[Row], end: Next) -> bool {
     let Some(mut lexer) = lexer_of(text) else {
         return false;
@@ -414,24 +414,24 @@ const TOKENS: &[Row] = &[
     (TokenKind::Word, 2, 46, 48, 0),
 ];
 
-// The fault in the second line of a text, behind a word.
+// The fault in the second line of a text, after a word.
 const FAULT: Refusal = Refusal {
     kind: RefusalKind::BadExpr,
     line: 2,
 };
 
-// Whether texts have their tokens, of which one has a fault.
+// Returns whether texts have their tokens, one of which has a fault.
 fn are_tokens_read() -> bool {
     let word = [(TokenKind::Word, 1, 0, 1, 0)];
     has_tokens(GLUED, TOKENS, Ok(None)) && has_tokens(b"a\n $(1 / 0) b", &word, Err(FAULT))
 }
 
-// Whether a text of one byte is read as a token of this kind and value.
+// Returns whether a text of one byte is read as a token of this kind and value.
 fn is_token(byte: u8, kind: TokenKind, value: u64) -> bool {
     has_tokens(&[byte], &[(kind, 1, 0, 1, value)], Ok(None))
 }
 
-// Whether a text of one byte is no token, and comes to this.
+// Returns whether a text of one byte is no token, and results in this.
 fn is_no_token(byte: u8, end: Next) -> bool {
     has_tokens(&[byte], &[], end)
 }
@@ -474,7 +474,7 @@ const STRINGS: &[(&[u8], &[u8])] = &[
     (b"\"/* \\1\\12\\1234 \xff\0\"", b"/* \x01\n\x534 \xff\0"),
 ];
 
-// Whether a string token has these bytes, and none behind the last, however often it is asked.
+// Returns whether a string token has these bytes, and none after the last, however often it is asked.
 fn has_bytes(token: &[u8], wanted: &[u8]) -> bool {
     let mut place = 0;
     for byte in wanted {
@@ -485,7 +485,7 @@ fn has_bytes(token: &[u8], wanted: &[u8]) -> bool {
     string_bytes(token, &mut place) == None && string_bytes(token, &mut place) == None
 }
 
-// Whether each string is a token alone, and has its bytes.
+// Returns whether each string is a token alone, and has its bytes.
 fn are_strings_read() -> bool {
     for (token, bytes) in STRINGS {
         if !gives(token, b"0") || !has_bytes(token, bytes) {

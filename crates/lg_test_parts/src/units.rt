@@ -20,7 +20,7 @@ fn passes(alloc: Global, unit: &Unit) -> Result<(), Stop> {
     Ok(())
 }
 
-// Whether a unit should be accepted, or refused for what it is.
+// Returns whether a unit should be accepted, or refused for what it is.
 fn is_checked(alloc: Global, unit: &Unit, wanted: Wanted) -> bool {
     match passes(alloc, unit) {
         Ok(()) => wanted.0 == b"accepted".as_slice(),
@@ -28,7 +28,7 @@ fn is_checked(alloc: Global, unit: &Unit, wanted: Wanted) -> bool {
     }
 }
 
-// Whether this is said of a unit.
+// Returns whether this is said of a unit.
 fn is_said(alloc: Global, kind: &Kind, unit: &Unit, wanted: Wanted) -> bool {
     match kind {
         Kind::Checked => is_checked(alloc, unit, wanted),
@@ -38,7 +38,7 @@ fn is_said(alloc: Global, kind: &Kind, unit: &Unit, wanted: Wanted) -> bool {
     }
 }
 
-/// Whether this is said of a text's unit, or is the kind and the line of its refusal.
+/// Returns whether this is said of a text's unit, or is the kind and the line of its refusal.
 pub(crate) fn gives(alloc: Global, kind: &Kind, text: &[u8], wanted: Wanted) -> bool {
     match read(alloc, text) {
         Ok(unit) => is_said(alloc, kind, &unit, wanted),

@@ -399,7 +399,7 @@ const PARTS: &str = "0 1 0 0 0\n\
     8000000000000000 4 0 0 0\n\
     8000000000000000 8 8000000000000000 8000000000000000 80";
 
-// Reads the words of a row, and tells how many there are: 0 where they are more than five, or one is no word.
+// Reads the words of a row, and returns how many there are: 0 where they are more than five, or one is no word.
 fn read_words(row: &str, words: &mut [u64; 5]) -> usize {
     let mut count = 0;
     for digits in row.split(' ') {
@@ -483,7 +483,7 @@ fn is_right(rows: &Rows, line: &str) -> bool {
     }
 }
 
-// The first row of a table of which something else comes.
+// Returns the first row of a table that gives something else.
 fn first_other(rows: &Rows, table: &'static str) -> Option<&'static str> {
     for row in table.lines() {
         if !is_right(rows, row) {

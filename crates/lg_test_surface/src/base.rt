@@ -52,7 +52,7 @@ fn is_space_right<S: Space>(space: &mut S, address: u64) -> bool {
     can && done && byte == Some(7)
 }
 
-// The memory of a run.
+// Returns the memory of a run.
 fn is_memory_right(alloc: Global) -> Result<bool, OutOfMemory> {
     let mut memory: Memory = Memory::new(alloc, 16, 8)?;
     let stored: bool = memory.store(0x2000_0000, 8, 258);
@@ -60,7 +60,7 @@ fn is_memory_right(alloc: Global) -> Result<bool, OutOfMemory> {
     Ok(stored && loaded == Some(258) && is_space_right(&mut memory, 0x2000_0003))
 }
 
-// The argument part of one word. What it is promised to be is for proofs.
+// Returns the argument part of one word. What it is promised to be is for proofs.
 fn image_of(alloc: Global, words: &Vec<String>) -> Result<ArgImage, Stop> {
     if words.len() == 0 {
         return Err(Stop::OutOfMemory);
@@ -74,7 +74,7 @@ fn words(alloc: Global) -> Result<Vec<String>, AllocError> {
     Ok(words)
 }
 
-// The lists of bytes.
+// Returns the lists of bytes.
 fn are_lists_right(alloc: Global) -> Result<bool, Stop> {
     let code: CodeBytes = CodeBytes::of(alloc, &[1, 2])?;
     let data: DataImage = DataImage::of(alloc, &[3])?;
@@ -82,9 +82,11 @@ fn are_lists_right(alloc: Global) -> Result<bool, Stop> {
         return Err(Stop::OutOfMemory);
     };
     let args: ArgImage = image_of(alloc, &words)?;
-    Ok(code.as_slice() == [1, 2].as_slice()
-        && data.as_slice() == [3].as_slice()
-        && args.as_slice().len() == 19)
+    Ok(
+        code.as_slice() == [1, 2].as_slice()
+            && data.as_slice() == [3].as_slice()
+            && args.as_slice().len() == 19,
+    )
 }
 
 #[test]

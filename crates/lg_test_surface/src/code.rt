@@ -22,7 +22,7 @@ fn are_rewritten(alloc: Global, nodes: &NodeList, shape: &Shape) -> Result<bool,
     Ok(threaded.nodes.len() == 4 && dropped.nodes.len() == 4 && dropped.origin.len() == 4)
 }
 
-// The registers that are live at a node.
+// Returns the registers that are live at a node.
 fn is_live_so(live: &Live, index: u32) -> bool
     requires before { index < length live.now.before }
     requires after { index < length live.now.behind }
@@ -71,7 +71,7 @@ fn is_convention_right() -> bool {
     place == ArgPlace::Stack(0) && registers == (0, 3) && kept
 }
 
-// Emits `jal x0` and binds its label behind it.
+// Emits `jal x0` and binds its label after it.
 fn is_emitted(buf: &mut CodeBuf) -> bool
     requires fixes { buf.old.fixes ≡ [] }
     requires room { buf.old.room ≡ 1 }

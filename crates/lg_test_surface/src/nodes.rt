@@ -13,7 +13,7 @@ use lg_tst::parse;
 use std::alloc::Global;
 use std::test::Fail;
 
-// The first token of a text, and the first byte of a string.
+// Returns the first token of a text, and the first byte of a string.
 fn are_tokens_right() -> bool {
     let mut lexer: Lexer<'_> = Lexer::new(b"movi");
     let first: Result<Option<Token>, Refusal> = lexer.next();
@@ -31,7 +31,7 @@ fn are_tokens_right() -> bool {
 /// A function of four nodes with a label whose address is taken.
 pub(crate) const TEXT: &[u8] = b"prolog\nmovi %r0 there\nthere: retr %r0\nepilog";
 
-/// The unit of a text.
+/// Returns the unit of a text.
 pub(crate) fn unit_of(alloc: Global, text: &[u8]) -> Result<Unit, Stop>
     ensures { IfOk result IsWhole }
 {
@@ -67,11 +67,13 @@ fn are_nodes_made(nodes: &mut NodeList) -> Result<bool, OutOfMemory>
     let word: &[u8] = nodes.word(label);
     let is_main = word == b"main".as_slice();
     let labels: u32 = nodes.labels();
-    Ok(bound
-        && place == Some(Place::Node(0))
-        && is_main
-        && labels == 1
-        && name.as_slice() == b"prolog".as_slice())
+    Ok(
+        bound
+            && place == Some(Place::Node(0))
+            && is_main
+            && labels == 1
+            && name.as_slice() == b"prolog".as_slice(),
+    )
 }
 
 // The same in a list of its own.
@@ -98,7 +100,7 @@ fn is_shaped(alloc: Global, unit: &Unit) -> Result<bool, Stop> {
     Ok(is_shape_right(&shape) && is_shape_right(&again))
 }
 
-// Whether a unit has the nodes that it should have.
+// Returns whether a unit has the nodes that it should have.
 fn are_nodes_right(unit: &Unit) -> bool {
     let count: u32 = unit.nodes.len();
     if count != 4 {
@@ -106,7 +108,9 @@ fn are_nodes_right(unit: &Unit) -> bool {
     }
     let node: Node = unit.nodes.node(1);
     let operands: Operands = Operands::of(&[Operand::Reg(Reg::R0), Operand::Label(Label(0))]);
-    Some(node.op) == Op::by_name(b"movi") && node.operands.as_slice() == operands.as_slice() && node.line == 2
+    Some(node.op) == Op::by_name(b"movi")
+        && node.operands.as_slice() == operands.as_slice()
+        && node.line == 2
 }
 
 fn is_text_right(alloc: Global) -> Result<bool, Stop> {

@@ -22,7 +22,7 @@ use lg_temp::Choices;
 use std::alloc::{AllocError, Global};
 use std::test::Fail;
 
-// The code of a unit. What it is promised to be is for proofs.
+// Returns the code of a unit. What it is promised to be is for proofs.
 fn code_of(alloc: Global, unit: &Unit) -> Result<Code, Stop>
     requires { IsWhole unit.now }
 {
@@ -30,7 +30,7 @@ fn code_of(alloc: Global, unit: &Unit) -> Result<Code, Stop>
     assemble(alloc, unit, &shape, Target::Riscv64, 4096)
 }
 
-// The parts of code.
+// Returns the parts of code.
 fn are_parts_right(code: &Code) -> bool {
     if code.nodes().len() == 0 {
         return false;
@@ -68,7 +68,12 @@ fn is_code_right(alloc: Global) -> Result<bool, Stop> {
 }
 
 // Whether the nodes of a text can be lowered into a buffer.
-fn is_lowered(alloc: Global, nodes: &NodeList, shape: &Shape, live: &Live) -> Result<bool, OutOfMemory>
+fn is_lowered(
+    alloc: Global,
+    nodes: &NodeList,
+    shape: &Shape,
+    live: &Live,
+) -> Result<bool, OutOfMemory>
     requires shape { IsShapeOf nodes.now shape.now }
     requires live { AreLive nodes.now shape.now live.now }
 {
@@ -100,7 +105,7 @@ fn is_step_right(machine: &mut Portable, unit: &Unit, shape: &Shape, out: &mut M
     matches!(step, MeanStep::Went) && steps == 1
 }
 
-// The portable meaning of a unit.
+// Returns the portable meaning of a unit.
 fn is_meant(alloc: Global, unit: &Unit, shape: &Shape) -> Result<bool, OutOfMemory>
     requires shape { IsShapeOf unit.now.nodes shape.now }
 {
@@ -155,7 +160,7 @@ fn is_program_right(alloc: Global) -> Result<bool, OutOfMemory> {
     Ok(number == 7 && steps > 0 && done.code.is_some())
 }
 
-// The generator's text.
+// Returns the generator's text.
 fn is_text_made(alloc: Global) -> Result<bool, OutOfMemory> {
     let text: CodeText = made(alloc, 1)?;
     Ok(text.as_slice().len() > 1000)

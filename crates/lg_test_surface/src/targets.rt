@@ -74,7 +74,7 @@ fn are_needs_right(node: &Node) -> bool {
     x86.as_slice().is_empty() && a64.as_slice().is_empty() && rv.as_slice().is_empty()
 }
 
-// The places of arguments of a function that takes a variable number of them.
+// Returns the places of arguments of a function that takes a variable number of them.
 fn are_homes_right() -> bool {
     let first: i32 = home(Target::Riscv64, 0);
     let ninth: i32 = home(Target::Riscv64, 8);
@@ -138,7 +138,9 @@ fn is_processor_right(alloc: Global) -> Result<bool, OutOfMemory> {
 fn calls_the_targets_and_lg_cpu(rt: HostRuntime) -> Result<(), Fail> {
     assert!(rt; is_x86_right() && is_a64_right() && is_rv_right());
     assert!(rt; are_needs_right(&added()) && are_homes_right());
-    assert!(rt; is_x86_selected(rt.alloc())? && is_a64_selected(rt.alloc())? && is_rv_selected(rt.alloc())?);
+    assert!(rt;
+        is_x86_selected(rt.alloc())? && is_a64_selected(rt.alloc())? && is_rv_selected(rt.alloc())?
+    );
     assert!(rt; is_processor_right(rt.alloc())?);
     Ok(())
 }

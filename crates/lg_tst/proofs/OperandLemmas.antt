@@ -114,7 +114,7 @@ all_apart : (op : Op) (done : List Operand) (names : FunctionNames) → IsApart 
 all_apart (Plain plain.VaStart) done names e = tt
 all_apart op done names e = e
 
--- so many operands of an instruction have been read, and the others decide what all of them give
+-- this many operands of an instruction have been read, and the others decide what all of them give
 pub record IsRead (op : Op) (line i : ℕ) (done : List Operand) (s first : State) : Type 0 where
   pub whole : operands op line (drop i (written_forms op)) done s ≡ operands op line (written_forms op) [] first
   pub room : length s.list.nodes < most_nodes

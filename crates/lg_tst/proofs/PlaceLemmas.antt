@@ -1,4 +1,4 @@
--- A place in the data part stays in it where bytes come behind.
+-- A place in the data part stays in it where bytes come after.
 use Rattle.std.proofs.Common.{◌≡◌, ℕ, ◌≤◌, List, Option, Some, None, length, length-append, ap, ◌∙◌, arith}
 use Rattle.std.specs.List.{All}
 use Rattle.std.proofs.lemmas.List.Elements.{All-weaker}

@@ -20,7 +20,7 @@ use Rattle.lg_tst.specs.declared.statement.ItemSize.{ItemSize}
 use Rattle.lg_tst.specs.declared.statement.Statement.{Statement}
 use Rattle.lg_tst.specs.declared.statement.Statement.TheVariants as statement
 
--- at most so many tokens are left of what is read
+-- at most this many tokens are left of what is read
 abbrev Leaves : ℕ → Result State Refusal → Type 0
 Leaves n read = IfOk read (λ u. length u.source.left ≤ n)
 
@@ -168,6 +168,6 @@ ok_leaves : (n : ℕ) (r : Result State Refusal) (u : State) → r ≡ Ok u → 
 ok_leaves n (Ok v) u e leaves = let same : v ≡ u = cc in subst (λ (w : State). length w.source.left ≤ n) same leaves
 ok_leaves n (Err x) u e leaves = cc
 
--- a statement that is read leaves no more tokens than stood behind its first
+-- a statement that is read leaves no more tokens than stood after its first
 pub statement_less : (s new : State) (t : Token) → statement_from s t ≡ Ok new → length new.source.left ≤ length s.source.left
 statement_less s new t e = ok_leaves _ (statement_from s t) new e (statement_leaves _ s t)

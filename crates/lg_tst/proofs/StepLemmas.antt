@@ -8,7 +8,7 @@ use Rattle.lg_tst.specs.Units.{State, behind, statement_from}
 use Rattle.lg_tst.specs.Readings.{IsRead, AreRead, joined}
 use Rattle.lg_tst.proofs.TakeLemmas.{statement_later}
 
--- a statement that is read takes its first token and some behind it
+-- a statement that is read takes its first token and some after it
 pub statement_read : (s u : State) (t : Token) (more : List Token) → s.source.left ≡ t ∷ more → statement_from (behind s) t ≡ Ok u → (taken : List Token) × IsRead s (t ∷ taken) u
 statement_read s u t more here leads =
     let later = statement_later (behind s) u t leads in (
@@ -31,7 +31,7 @@ no_slice slice e = cc
 pub none_read : (s : State) → AreRead s [] s
 none_read s = record { states = λ i. s; first = refl; last = refl; each = λ i slice e. no_slice slice e }
 
--- a state, and others behind it
+-- a state, and others after it
 abbrev from : State → (ℕ → State) → ℕ → State
 from s states zero = s
 from s states (suc i) = states i
@@ -43,7 +43,7 @@ more_read s u v slice slices one others = record { states = from s others.states
     by zero x e = subst (λ y. IsRead s y (others.states zero)) (same_Some slice x e) (subst (λ w. IsRead s slice w) (sym others.first) one)
     by (suc i) x e = others.each i x e
 
--- the state behind the first of some slices
+-- the state after the first of some slices
 pub record Split (s v : State) (slice : List Token) (slices : List (List Token)) : Type 0 where
   pub state : State
   pub one : IsRead s slice state

@@ -1,4 +1,4 @@
--- A statement takes the first of the tokens that are left, and leaves the others and the fault behind them as they are.
+-- A statement takes the first of the tokens that are left, and leaves the others and the fault after them as they are.
 use Rattle.std.proofs.Common.{◌≡◌, ℕ, Bool, true, false, cond, List, [], ◌∷◌, ◌++◌, length, Option, Some, None, Result, Ok, Err, IfOk, is_some, nat_lt, nat_le, refl, sym, ap, ◌∙◌, subst}
 use Rattle.std.proofs.lemmas.List.{append_assoc}
 use Rattle.lg_base.specs.declared.refusal.Refusal.{Refusal}
@@ -21,7 +21,7 @@ use Rattle.lg_tst.specs.declared.statement.ItemSize.{ItemSize}
 use Rattle.lg_tst.specs.declared.statement.Statement.{Statement}
 use Rattle.lg_tst.specs.declared.statement.Statement.TheVariants as statement
 
--- behind tokens that were taken
+-- after tokens that were taken
 pub record IsLater (s u : Stream) : Type 0 where
   pub taken : List Token
   pub left : s.left ≡ taken ++ u.left
@@ -44,7 +44,7 @@ tail_taken (t ∷ ts) = (t ∷ [], refl)
 tail : (s : Stream) → IsLater s (passed s)
 tail s = record { taken = (tail_taken s.left).0; left = (tail_taken s.left).1; fault = refl }
 
--- what is read leads behind tokens that were taken
+-- what is read leads after tokens that were taken
 abbrev Leads : Stream → Result State Refusal → Type 0
 Leads s read = IfOk read (λ u. IsLater s u.source)
 
@@ -187,6 +187,6 @@ statement_leads (Err kind) s t = tt
 ok_leads : (s : Stream) (r : Result State Refusal) (u : State) → r ≡ Ok u → Leads s r → IsLater s u.source
 ok_leads s r u e leads = subst (Leads s) e leads
 
--- a statement that is read leads behind tokens that stood behind its first
+-- a statement that is read leads after tokens that stood after its first
 pub statement_later : (s new : State) (t : Token) → statement_from s t ≡ Ok new → IsLater s.source new.source
 statement_later s new t e = ok_leads s.source (statement_from s t) new e (statement_leads _ s t)

@@ -55,7 +55,7 @@ take_take (suc m) (suc n) (b ∷ bytes) h = ap (λ more. b ∷ more) (take_take 
 abbrev IsOther : TokenKind → Type 0
 IsOther kind = (kind ≢ Word) × (kind ≢ LabelMark)
 
--- the tokens of a piece, where those behind it are known
+-- the tokens of a piece, where those after it are known
 module _ (text : List ℕ) (place : ℕ) (behind : ℕ → Tokens) (rest : (n : ℕ) → All (IsToken text) (behind (behind_piece place n)).0) where
   abbrev bytes : List ℕ
   bytes = drop place text

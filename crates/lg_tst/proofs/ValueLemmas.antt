@@ -32,7 +32,7 @@ unfolding more_values
 none_next size [] s e = refl
 none_next size (x ∷ more) s e = cc
 
--- the same where the state behind the value, or the state as it was, is given
+-- the same where the state after the value, or the state as it was, is given
 pub value_after : (size : ItemSize) (s new : State) (t : Token) → Some t ≡ head_of s.source.left → is_value size t.kind ≡ true → new ≡ behind s → more_values size s.source.left s ≡ value_and_more size t new
 value_after size s new t e is same = value_next size s.source.left s t e is ∙ sym (ap (value_and_more size t) same)
 

@@ -9,7 +9,7 @@ use Rattle.lg_node.specs.declared.place.Place.TheVariants as place
 use Rattle.lg_node.specs.declared.unit.Unit.{Unit as TextUnit}
 use Rattle.lg_tst.specs.Units.{State}
 
--- a call that gives x and leaves a state, or refuses, as a definition says; where memory was wanted nothing is said
+-- a call that gives x and leaves a state, or refuses, as a definition says; where memory ran out nothing is said
 abbrev pub GivesWith : {A : Type 0} → Result A Stop → State → Result A Refusal → State → Type 0
 GivesWith (Ok x) new read next = (read ≡ Ok x) × (new ≡ next)
 GivesWith (Err OutOfMemory) new read next = Unit {0}
@@ -31,12 +31,12 @@ Reads (Err (Refused refusal)) read = read ≡ Err refusal
 abbrev pub HasRoom : State → Type 0
 HasRoom s = length s.list.words + length s.names.words + length s.source.left < 16777216
 
--- a place in the data part is at most behind so many bytes
+-- a place in the data part is at most after this many bytes
 abbrev pub LiesWithin : ℕ → Option Place → Type 0
 LiesWithin n (Some (place.Image k)) = k ≤ n
 LiesWithin n bound = Unit {0}
 
--- the data part of a unit has at most 16 MiB, and no data label is bound behind its end
+-- the data part of a unit has at most 16 MiB, and no data label is bound after its end
 pub record IsWhole (u : TextUnit) : Type 0 where
   pub image : length u.image ≤ 16777216
   pub places : All (LiesWithin (length u.image)) u.nodes.places

@@ -12,7 +12,7 @@ no_data = record { size = None; bytes = [] }
 abbrev pub limit_of : DataBytes → ℕ
 limit_of part = unwrap_or part.size 0
 
--- so many bytes more do not pass the size
+-- this many bytes more do not pass the size
 abbrev pub fits : DataBytes → ℕ → Bool
 fits part n = nat_le (length part.bytes + n) (limit_of part)
 

@@ -4,7 +4,7 @@ use Rattle.std.specs.Str.{bytes_eq}
 use Rattle.lg_op.specs.declared.operand.Operand.{Operand}
 use Rattle.lg_op.specs.declared.operand.Operand.TheVariants as operand
 
--- the names since the last `prolog` in their order, and for each the operand that it stands for: the number of an argument, or the
+-- the names since the last `prolog` in their order, and for each the operand that it denotes: the number of an argument, or the
 -- offset of a local; how many arguments and locals there are; and the offset of the last local as a word
 pub record FunctionNames : Type 0 where
   pub words : List (List ℕ)
@@ -33,7 +33,7 @@ with_name names word meaning = record names { words = names.words ++ word ∷ []
 abbrev pub with_argument : FunctionNames → List ℕ → FunctionNames
 with_argument names word = record (with_name names word (operand.Slot names.arguments)) { arguments = names.arguments + 1 }
 
--- so many bytes below an offset, rounded up to a multiple of 8
+-- this many bytes below an offset, rounded up to a multiple of 8
 abbrev pub below : ℕ → ℕ → ℕ
 below offset size = (offset + (2 ^ 64 - (size + 7) / 8 * 8)) % 2 ^ 64
 

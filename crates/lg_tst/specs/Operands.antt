@@ -1,4 +1,4 @@
--- The operands that tokens are, and the names behind them.
+-- The operands that tokens are, and the names after them.
 use Rattle.std.specs.Prelude.{ℕ, Bool, if◌then◌else◌, List, drop, Result, Ok, Err}
 use Rattle.lg_base.specs.HostNames.{host_by_name}
 use Rattle.lg_base.specs.declared.refusal.RefusalKind.{RefusalKind}
@@ -40,7 +40,7 @@ abbrev pub apart_or : Op → List Operand → Result Operand RefusalKind → Res
 apart_or op done (Ok x) = if stays_apart op done x then Ok x else Err BadOperand
 apart_or op done (Err kind) = Err kind
 
--- the names behind an operand
+-- the names after an operand
 abbrev pub names_behind : Form → List Operand → FunctionNames → List ℕ → FunctionNames
 names_behind NewArgument done names word = with_argument names word
 names_behind NewLocal done names word = with_local names word (local_size done)

@@ -15,14 +15,14 @@ pub record IsRead (before : State) (slice : List Token) (after : State) : Type 0
   pub leads : statement_from (behind before) first ≡ Ok after
   pub takes : before.source.left ≡ slice ++ after.source.left
 
--- slices are read one after the other, each as one statement: there is a state before each, and one behind the last
+-- slices are read one after the other, each as one statement: there is a state before each, and one after the last
 pub record AreRead (before : State) (slices : List (List Token)) (after : State) : Type 0 where
   pub states : ℕ → State
   pub first : states zero ≡ before
   pub last : states (length slices) ≡ after
   pub each : (i : ℕ) (slice : List Token) → slice_get slices i ≡ Some slice → IsRead (states i) slice (states (suc i))
 
--- the slices, one behind the other
+-- the slices, one after the other
 abbrev pub joined : List (List Token) → List Token
 joined slices = flat_map (λ slice. slice) slices
 
@@ -33,7 +33,7 @@ pub record IsRefusedNext (before : State) (refusal : Refusal) : Type 0 where
   pub begins : before.source.left ≡ first ∷ more
   pub refused : statement_from (behind before) first ≡ Err refusal
 
--- a text is read to its end: its tokens are the slices of its statements, with no fault behind them, and its unit is what was read
+-- a text is read to its end: its tokens are the slices of its statements, with no fault after them, and its unit is what was read
 pub record IsReadAs (text : List ℕ) (unit : TextUnit) : Type 0 where
   pub slices : List (List Token)
   pub end : State
@@ -43,7 +43,7 @@ pub record IsReadAs (text : List ℕ) (unit : TextUnit) : Type 0 where
   pub faultless : (tokens_of text).1 ≡ None
   pub made : unit ≡ unit_from end
 
--- a text's first fault: behind statements that are read, the next one is refused, or no token is left and the tokens themselves are at fault
+-- a text's first fault: after statements that are read, the next one is refused, or no token is left and the tokens themselves are at fault
 pub record IsFirstFault (text : List ℕ) (refusal : Refusal) : Type 0 where
   pub slices : List (List Token)
   pub end : State

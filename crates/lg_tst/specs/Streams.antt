@@ -7,7 +7,7 @@ use Rattle.lg_lex.specs.declared.token.Token.{Token}
 use Rattle.lg_lex.specs.declared.token.TokenKind.TheVariants.{Word, LabelMark}
 use Rattle.lg_node.specs.Nodes.{is_word}
 
--- a text, the tokens of it that are left, and the fault behind them, where there is one
+-- a text, the tokens of it that are left, and the fault after them, where there is one
 pub record Stream : Type 0 where
   pub text : List ℕ
   pub left : List Token
@@ -27,7 +27,7 @@ next_of [] None = Ok None
 next_of [] (Some refusal) = Err refusal
 next_of (token ∷ more) fault = Ok (Some token)
 
--- the next token, where an operand is wanted of the statement that begins in this line
+-- the next token, where an operand is expected of the statement that begins in this line
 abbrev pub wanted_of : ℕ → List Token → Option Refusal → Result Token Refusal
 wanted_of line [] None = refuse BadOperand line
 wanted_of line [] (Some refusal) = Err refusal

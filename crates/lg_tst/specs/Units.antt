@@ -50,7 +50,7 @@ at_line line (Err kind) = refuse kind line
 abbrev pub token_text : State → Token → List ℕ
 token_text s token = text_of s.source.text token
 
--- behind the next token
+-- after the next token
 abbrev pub behind : State → State
 behind s = record s { source = passed s.source }
 
@@ -60,7 +60,7 @@ wanted line s = wanted_of line s.source.left s.source.fault
 
 -- ---- instructions
 
--- the operand that a token is, behind those before it
+-- the operand that a token is, after those before it
 abbrev pub operand_of : State → Op → Form → List Operand → Token → Result Operand Refusal
 operand_of s op form done t = at_line t.line (apart_or op done (operand_at s.list.words s.names form t.kind (token_text s t) t.value))
 
@@ -73,7 +73,7 @@ noted_by kind s form done text = s
 abbrev pub noted : State → Form → List Operand → Token → State
 noted s form done t = noted_by t.kind s form done (token_text s t)
 
--- the operands of which each has its token: `va_start` has a second one, for which none stands
+-- the operands each of which has its token: `va_start` has a second one, for which none stands
 abbrev pub written_forms : Op → List Form
 written_forms (Plain plain.VaStart) = Write ∷ []
 written_forms op = forms_of op
@@ -125,7 +125,7 @@ opened s t =
 abbrev pub data_section : State → ℕ → Result State Refusal
 data_section s line = if is_some s.part.size then refuse UnknownName line else (number_wanted line s >>= λ t. opened (behind s) t)
 
--- so many bytes more of the data part, which are these
+-- this many bytes more of the data part, which are these
 abbrev pub stored : ℕ → ℕ → List ℕ → State → Result State Refusal
 stored line n bytes s = if fits s.part n then Ok (record s { part = with_bytes s.part bytes }) else refuse DataFull line
 
@@ -218,7 +218,7 @@ abbrev pub is_digits : TokenKind → Bool
 is_digits Number = true
 is_digits kind = false
 
--- behind the next token, where that is of such a kind
+-- after the next token, where that is of such a kind
 abbrev pub behind_if : (TokenKind → Bool) → List Token → State → State
 behind_if test [] s = s
 behind_if test (t ∷ more) s = if test t.kind then behind s else s
@@ -248,13 +248,13 @@ statement_by (Err kind) s t = refuse kind t.line
 abbrev pub statement_from : State → Token → Result State Refusal
 statement_from s t = statement_by (statement_of s.section t.kind (token_text s t)) s t
 
--- the end of the text, its fault, or a statement and what comes behind it
+-- the end of the text, its fault, or a statement and what comes after it
 abbrev pub text_from : (State → Result State Refusal) → State → Result (Option Token) Refusal → Result State Refusal
 text_from rest s (Ok None) = Ok s
 text_from rest s (Ok (Some t)) = statement_from (behind s) t >>= rest
 text_from rest s (Err refusal) = Err refusal
 
--- the statements that are left, of which there are at most so many
+-- the statements that are left (at most this many)
 unfoldable pub statements : ℕ → State → Result State Refusal
 statements zero s = Ok s
 statements (suc k) s = text_from (statements k) s (next_of s.source.left s.source.fault)

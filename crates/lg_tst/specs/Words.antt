@@ -6,7 +6,7 @@ use Rattle.lg_op.specs.declared.op.Op.{Op}
 use Rattle.lg_tst.specs.declared.words.Directive.{Directive}
 use Rattle.lg_tst.specs.declared.words.Directive.TheVariants as directive
 
--- a byte that stands for a floating-point type: f or d
+-- a byte that denotes a floating-point type: f or d
 abbrev pub is_float_type : ℕ → Bool
 is_float_type b = (b == 102) || (b == 100)
 
@@ -15,7 +15,7 @@ abbrev pub begins_float_part : List ℕ → Bool
 begins_float_part (a ∷ b ∷ rest) = (a == 95) && (is_float_type b && ((length rest == 0) || (slice_index rest 0 == 95)))
 begins_float_part bytes = false
 
--- f or d is a part of the word behind some _ : `addr_f`, `extr_d_f`
+-- f or d is a part of the word after some _ : `addr_f`, `extr_d_f`
 unfoldable pub is_float_word : List ℕ → Bool
 is_float_word [] = false
 is_float_word (b ∷ rest) = begins_float_part (b ∷ rest) || is_float_word rest

@@ -39,14 +39,14 @@ impl DataPart {
         }
     }
 
-    /// Whether the part has its size.
+    /// Returns whether the part has its size.
     pub fn has_size(&self) -> bool
         ensures { result ≡ is_some self.now.size }
     {
         self.size.is_some()
     }
 
-    /// How many bytes the items and skips so far have, at most 16,777,216.
+    /// Returns how many bytes the items and skips so far have, at most 16,777,216.
     pub fn len(&self) -> u32
         ensures len { result ≡ length self.now.bytes }
         ensures most { result ≤ 16777216 }
@@ -54,7 +54,7 @@ impl DataPart {
         self.bytes.len() as u32
     }
 
-    // How many bytes may still come.
+    // Returns how many bytes may still come.
     fn room(&self) -> usize
         ensures { length self.now.bytes + result ≡ limit_of self.now }
     {
@@ -86,7 +86,7 @@ impl DataPart {
         Ok(true)
     }
 
-    /// Appends so many zeros. False exactly where they pass the size, and then nothing changes.
+    /// Appends this many zeros. False exactly where they pass the size, and then nothing changes.
     pub fn skip(&mut self, count: u64) -> Result<bool, OutOfMemory>
         ensures fits { IfOk result (λ done. done ≡ fits self.old count) }
         ensures ok { OnOk result (self.new ≡ (if fits self.old count then with_bytes self.old (zeros count) else self.old)) }
@@ -100,7 +100,7 @@ impl DataPart {
         Ok(true)
     }
 
-    /// The bytes of the whole part: behind the items and skips come zeros.
+    /// Returns the bytes of the whole part: after the items and skips come zeros.
     pub fn into_image(self) -> Result<DataImage, OutOfMemory>
         ensures image { IfOk result (λ image. image ≡ image_of self) }
         ensures most { IfOk result (λ image. length image ≤ 16777216) }

@@ -9,7 +9,7 @@ use lg_op::Operand;
 use std::alloc::Global;
 use std::marker::Model;
 
-/// The names that a function makes, each with the operand that it stands for.
+/// The names that a function makes, each with the operand that it denotes.
 #[derive(Drop)]
 pub struct Names {
     alloc: Global,
@@ -53,14 +53,14 @@ impl Names {
         *self = Names::new(self.alloc);
     }
 
-    /// How many arguments the function has made.
+    /// Returns how many arguments the function has made.
     pub fn arguments(&self) -> u32
         ensures { result ≡ self.now.arguments }
     {
         self.arguments
     }
 
-    // The operand at a place.
+    // Returns the operand at a place.
     fn meaning_at(&self, index: usize) -> Operand
         requires { index < length self.now.meanings }
         ensures { Some result ≡ slice_get self.now.meanings index }
@@ -68,7 +68,7 @@ impl Names {
         self.meanings[index]
     }
 
-    /// The operand that a name stands for: the number of an argument, or the offset of a local. None where no such name is made.
+    /// Returns the operand that a name denotes: the number of an argument, or the offset of a local. None where no such name is made.
     pub fn meaning(&self, word: &[u8]) -> Option<Operand>
         ensures { result ≡ meaning_of self.now word.now }
     {
@@ -110,7 +110,7 @@ impl Names {
         Ok(Some(number))
     }
 
-    /// Makes the next local of the function, which has so many bytes, and gives its number. None exactly where the name is made
+    /// Makes the next local of the function, which has this many bytes, and gives its number. None exactly where the name is made
     /// already.
     pub fn add_local(&mut self, word: &[u8], size: u64) -> Result<Option<u32>, OutOfMemory>
         requires room { length self.old.words < 2 ^ 32 - 1 }

@@ -140,7 +140,7 @@ impl<'a> Parser<'a> {
         Ok(())
     }
 
-    /// The unit of what was read.
+    /// Returns the unit of what was read.
     pub fn into_unit(self) -> Result<Unit, Stop>
         ensures unit { Reads result (Ok (unit_from self.entry)) }
         ensures whole { IfOk result IsWhole }

@@ -41,7 +41,7 @@ impl<'a> Source<'a> {
         }
     }
 
-    /// Takes the next token, None exactly at the end of the text, or answers the text's fault.
+    /// Takes the next token, None exactly at the end of the text, or returns the text's fault.
     pub fn next(&mut self) -> Result<Option<Token>, Refusal>
         ensures value { result ≡ next_of self.old.left self.old.fault }
         ensures rest { self.new ≡ passed self.old }
@@ -77,7 +77,7 @@ impl<'a> Source<'a> {
         let _ = self.next();
     }
 
-    /// The bytes of a token.
+    /// Returns the bytes of a token.
     pub fn text_of(&self, token: Token) -> &'a [u8]
         requires { IsToken self.now.text token }
         ensures { result.now ≡ text_of self.now.text token }

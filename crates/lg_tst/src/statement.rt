@@ -128,7 +128,7 @@ fn directive_statement(
     }
 }
 
-/// The statement that a token of a text begins in a section, or why it begins none.
+/// Returns the statement that a token of a text begins in a section, or why it begins none.
 pub fn statement_of(
     section: Section,
     kind: TokenKind,
@@ -146,7 +146,7 @@ pub fn statement_of(
 }
 
 impl ItemSize {
-    /// How many bytes a value has.
+    /// Returns how many bytes a value has.
     pub fn bytes(self) -> usize
         ensures bytes { result ≡ bytes_in self }
         ensures most { result ≤ 8 }
@@ -159,7 +159,7 @@ impl ItemSize {
         }
     }
 
-    /// Whether a token is a value of an item of this size.
+    /// Returns whether a token is a value of an item of this size.
     pub fn takes(self, kind: TokenKind) -> bool
         ensures { result ≡ is_value self kind }
     {
@@ -170,7 +170,7 @@ impl ItemSize {
     }
 }
 
-/// Whether a token is a number, a character or an expression.
+/// Returns whether a token is a number, a character or an expression.
 pub fn is_number(kind: TokenKind) -> bool
     ensures { result ≡ is_number kind }
 {

@@ -45,7 +45,7 @@ static DIRECTIVES: [Directive; 10] = [
     Directive::Double,
 ];
 
-// Whether `_` comes, and then f or d is all that comes before the end or the next `_`.
+// Returns whether `_` comes, and then f or d is all that comes before the end or the next `_`.
 fn begins_float_part(word: &[u8]) -> bool
     ensures { result ≡ begins_float_part word.now }
 {
@@ -55,7 +55,7 @@ fn begins_float_part(word: &[u8]) -> bool
     }
 }
 
-/// Whether a word has f or d as a part behind some `_`, as the names of floating-point instructions have.
+/// Returns whether a word has f or d as a part after some `_`, as the names of floating-point instructions have.
 pub fn is_float_word(word: &[u8]) -> bool
     ensures { result ≡ is_float_word word.now }
 {
@@ -68,7 +68,7 @@ pub fn is_float_word(word: &[u8]) -> bool
 }
 
 impl Directive {
-    // The text of the directive.
+    // Returns the text of the directive.
     fn word(self) -> &'static [u8]
         ensures { result.now ≡ directive_word self }
     {
@@ -86,7 +86,7 @@ impl Directive {
         }
     }
 
-    /// The directive of a text, and None where it is none of these.
+    /// Returns the directive of a text, or `None` if it is none of these.
     pub fn by_word(word: &[u8]) -> Option<Directive>
         ensures { result ≡ directive_of word.now }
     {
@@ -97,14 +97,14 @@ impl Directive {
     }
 }
 
-/// The operation that a word names.
+/// Returns the operation that a word names.
 pub fn op_of(word: &[u8]) -> Option<Op>
     ensures { result ≡ op_of word.now }
 {
     Op::by_name(word)
 }
 
-/// A text without its last byte.
+/// Returns a text without its last byte.
 pub fn without_last(text: &[u8]) -> &[u8]
     ensures { result.now ≡ without_last text.now }
 {

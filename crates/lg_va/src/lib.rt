@@ -6,8 +6,8 @@ ghost use Rattle.lg_va.specs.Homes.{home};
 
 use lg_base::Target;
 
-/// The offset in bytes from FP at which a function finds an argument: in its home below FP, where a register passes it, and else in the caller's stack word
-/// above. The index is below 16. The offsets are those of `Layout` in lg_base.
+/// Returns the offset in bytes from FP at which a function finds an argument: in its home below FP, where a register passes it, and else in the caller's
+/// stack word above. The index is below 16. The offsets are those of `Layout` in lg_base.
 pub fn home(target: Target, index: u32) -> i32
     requires { index < 16 }
     ensures { result ≡ home target index }

@@ -1,4 +1,4 @@
--- A front is compared with a spelling: the size prefix, REX and the opcode, and then what stands behind it.
+-- A front is compared with a spelling: the size prefix, REX and the opcode, and then what is after it.
 use Rattle.std.proofs.Common.{◌≡◌, ℕ, ◌+◌, ◌<◌, ◌≤◌, Bool, true, false, List, [], ◌∷◌, ◌++◌, length, length-append, Option, Some, None, refl, sym, ap, ◌∙◌, arith, nat_eq}
 use Rattle.std.specs.Prelude.{◌==◌, ◌&&◌, ◌||◌, not, find, if◌then◌else◌}
 use Rattle.std.specs.List.{starts_with}
@@ -138,7 +138,7 @@ same_is false false e = refl
 same_is false true e = e
 same_is true false e = sym e
 
--- the tests of an instruction's front and of its tail: z, mark, bits and p are those of its spelling, u what stands behind the opcode there
+-- the tests of an instruction's front and of its tail: z, mark, bits and p are those of its spelling, u what is after the opcode there
 pub record Tested (s : Bool) (r : ℕ) (e : Bool) (o : ℕ) (t : List ℕ) (i : Instr) (front tails : Bool) (k : ℕ) : Type 0 where
   pub z : Bool
   pub mark : Mark

@@ -81,7 +81,7 @@ pub memory_has_no_registers : (reg base : ℕ) (disp : ℤ) (more : List ℕ) �
 memory_has_no_registers reg base disp more =
     ap (λ mode. mode == 3) (modrm_mode (memory_mode disp) reg base) ∙ memory_mode_no_registers (is_short disp)
 
--- what stands behind ModRM and SIB
+-- what is after ModRM and SIB
 behind_sib : (b : Bool) (m s : ℕ) (number more : List ℕ) → drop (if b then 2 else 1) (m ∷ (((if b then s ∷ [] else []) ++ number) ++ more)) ≡ number ++ more
 behind_sib true m s number more = refl
 behind_sib false m s number more = refl

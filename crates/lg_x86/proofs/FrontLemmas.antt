@@ -52,7 +52,7 @@ unfolding sized_of
 plain_rex s bits fits rest other true = rw other refl
 plain_rex s bits fits rest other false = let four : (0x40 + bits) / 16 ≡ 4 = omega arith in rw four refl
 
--- REX is read where it stands
+-- REX is read where it is
 sized_rex : (s : Bool) (mark : Mark) (bits : ℕ) → bits < 8 → (rest : List ℕ) → (slice_index rest 0 / 16 == 4) ≡ false → sized_of s (rex mark bits ++ rest) ≡ code_of s (rex_value mark bits) rest
 unfolding sized_of
 sized_rex s Wide bits fits rest other = let four : (0x48 + bits) / 16 ≡ 4 = omega arith in rw four refl
@@ -87,7 +87,7 @@ first_no_size : (escaped : Bool) (opcode : ℕ) (tail : List ℕ) → IsOpcode o
 first_no_size true opcode tail is = refl
 first_no_size false opcode tail is = is.no_size
 
--- what stands in front of an operand is read as it was spelled
+-- what is in front of an operand is read as it was spelled
 pub front_read : (s : Bool) (mark : Mark) (bits : ℕ) → bits < 8 → (escaped : Bool) (opcode : ℕ) → IsOpcode opcode → (tail : List ℕ) (registers : Bool) → has_registers tail ≡ registers → guess_of (size_prefix s ++ (rex mark bits ++ (opcode_bytes escaped opcode ++ tail))) ≡ code_at s (rex_value mark bits) (read_mark mark) registers escaped opcode tail
 front_read s mark bits fits escaped opcode is tail registers e =
     prefixes_read s mark bits fits (opcode_bytes escaped opcode ++ tail) (first_no_rex escaped opcode tail is) (first_no_size escaped opcode tail is)

@@ -1,4 +1,4 @@
--- What was read is a spelling exactly where the decoder's tests say so: by the opcode, and by what stands in front of it.
+-- What was read is a spelling exactly where the decoder's tests say so: by the opcode, and by what is in front of it.
 use Rattle.std.proofs.Common.{◌≡◌, ℕ, ◌+◌, ◌/◌, Bool, true, false, List, [], ◌∷◌, ◌++◌, drop, length, length-append, slice_index, Option, None, refl, sym, ap, ◌∙◌, arith}
 use Rattle.std.specs.Prelude.{◌==◌, ◌&&◌, ◌||◌, not, if◌then◌else◌}
 use Rattle.std.proofs.lemmas.Bool.{eqb-true, ne_eqb}

@@ -1,4 +1,4 @@
--- What stands behind the opcode is that of the spelling exactly where the tests of ModRM, SIB and the number say so.
+-- What is after the opcode is that of the spelling exactly where the tests of ModRM, SIB and the number say so.
 use Rattle.std.proofs.Common.{◌≡◌, ℕ, zero, suc, ◌+◌, ◌-◌, ◌/◌, ◌%◌, ◌<◌, ◌≤◌, ℤ, pos, negsuc, Bool, true, false, List, [], ◌∷◌, ◌++◌, drop, length, length-append, slice_index, Some, refl, sym, ap, ◌∙◌, arith, lit<, nat_lt, nat_eq}
 use Rattle.std.specs.Prelude.{◌==◌, ◌&&◌, not, nat_le, if◌then◌else◌}
 use Rattle.std.specs.List.{starts_with}
@@ -46,7 +46,7 @@ too_short [] t lt = absurd (omega (arith, lt))
 too_short (y ∷ p) [] lt = refl
 too_short (y ∷ p) (x ∷ t) lt = rw (too_short p t (omega (arith, lt))) (and_false (y == x))
 
--- so many bytes that are read are those in front, where there are so many
+-- this many bytes that are read are those in front, where there are this many
 pub read_tail : (t p : List ℕ) (k : ℕ) → length p ≡ k → (k ≤ length t → t ≡ p ++ drop k t) → starts_with nat_eq t p ≡ has_bytes k t
 read_tail t p k long is = by (nat_le k (length t)) refl
   where
@@ -123,7 +123,7 @@ short_is_short n = by (nat_lt n 128) refl
     by true e = e
     by false e = grind (arith, nat_tests)
 
--- bytes behind the first
+-- bytes after the first
 pub behind_first : (t : List ℕ) (k : ℕ) → (has_registers t && has_bytes k (drop 1 t)) ≡ (has_registers t && has_bytes (suc k) t)
 behind_first [] k = refl
 behind_first (m ∷ t) k = ap (λ b. (m / 64 == 3) && b) (decided (nat_le k (length t)) (nat_le (suc k) (suc (length t))) (λ e. grind (arith, nat_tests)) (λ e. grind (arith, nat_tests)))

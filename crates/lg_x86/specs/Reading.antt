@@ -85,7 +85,7 @@ mark_in rex = if rex / 8 % 2 == 1 then Wide else Plain
 abbrev pub opcode_reg : ℕ → ℕ → ℕ
 opcode_reg rex opcode = rex % 2 * 8 + opcode % 8
 
--- the fields of what stands behind the opcode, which begins with ModRM, then SIB
+-- the fields of what is after the opcode, which begins with ModRM, then SIB
 abbrev pub has_registers : List ℕ → Bool
 has_registers tail = slice_index tail 0 / 64 == 3
 
@@ -121,7 +121,7 @@ long_in bytes = signed 2147483648 (word_in bytes)
 abbrev pub number_in : Bool → List ℕ → ℤ
 number_in short bytes = if short then short_in bytes else long_in bytes
 
--- the displacement stands behind ModRM, and behind SIB where there is one
+-- the displacement is after ModRM, and after SIB where there is one
 abbrev pub disp_place : List ℕ → ℕ
 disp_place tail = if slice_index tail 0 % 8 == 4 then 2 else 1
 
@@ -222,7 +222,7 @@ escaped_at rex mark registers opcode tail =
     else (if registers then reg_rm_of mark true rex opcode tail
     else load_of mark true rex opcode tail)))
 
--- an instruction behind its prefixes
+-- an instruction after its prefixes
 abbrev pub code_at : Bool → ℕ → Mark → Bool → Bool → ℕ → List ℕ → Option Instr
 code_at word_sized rex mark registers escaped opcode tail =
     if escaped then escaped_at rex mark registers opcode tail
@@ -234,7 +234,7 @@ code_of word_sized rex bytes =
     then code_at word_sized rex (mark_in rex) (has_registers (drop 2 bytes)) true (slice_index bytes 1) (drop 2 bytes)
     else code_at word_sized rex (mark_in rex) (has_registers (drop 1 bytes)) false (slice_index bytes 0) (drop 1 bytes)
 
--- an instruction behind its size prefix
+-- an instruction after its size prefix
 unfoldable pub sized_of : Bool → List ℕ → Option Instr
 sized_of word_sized bytes =
     if slice_index bytes 0 / 16 == 4 then code_of word_sized (slice_index bytes 0) (drop 1 bytes)
@@ -258,7 +258,7 @@ front_of bytes = checked bytes (guess_of bytes)
 abbrev pub rex_byte : ℕ → List ℕ
 rex_byte rex = if rex == 0 then [] else rex ∷ []
 
--- what stands in front of an operand, and the operand with what follows
+-- what is in front of an operand, and the operand with what follows
 abbrev pub front_bytes : Bool → ℕ → Bool → ℕ → List ℕ → List ℕ
 front_bytes word_sized rex escaped opcode tail = size_prefix word_sized ++ (rex_byte rex ++ (opcode_bytes escaped opcode ++ tail))
 
@@ -295,11 +295,11 @@ has_one tail = slice_index tail 0 / 8 == 24
 abbrev pub has_bytes : ℕ → List ℕ → Bool
 has_bytes count tail = nat_le count (length tail)
 
--- the displacement behind this mode is there, and is short where it can be
+-- the displacement after this mode is there, and is short where it can be
 abbrev pub is_displaced : ℕ → List ℕ → Bool
 is_displaced mode bytes = if mode == 1 then has_bytes 1 bytes else ((mode == 2) && (has_bytes 4 bytes && not (is_short (long_in bytes))))
 
--- ModRM begins an operand in memory, of which SIB names no index; and how long it is
+-- ModRM begins an operand in memory whose SIB names no index; and how long it is
 abbrev pub is_memory : List ℕ → Bool
 is_memory tail = (if slice_index tail 0 % 8 == 4 then slice_index tail 1 == 0x24 else true)
     && is_displaced (slice_index tail 0 / 64) (drop (disp_place tail) tail)
@@ -379,7 +379,7 @@ read_escaped word_sized rex len mark registers opcode tail =
     else (if opcode / 8 == 25 then accepted (not word_sized && is_wide_one rex) len (bswap_of rex opcode)
     else read_reg word_sized rex len mark registers true opcode tail))
 
--- behind the prefixes, of which there are so many bytes
+-- after the prefixes (this many bytes)
 unfoldable pub read_code : Bool → ℕ → ℕ → List ℕ → Option (Instr × ℕ)
 read_code word_sized rex len bytes =
     if slice_index bytes 0 == 0x0f

@@ -29,7 +29,7 @@ use Rattle.lg_x86.specs.declared.instruction.BareOp.TheVariants.{Cqo, Ret, Nop}
 use Rattle.lg_x86.specs.declared.instruction.Cond.{Cond}
 use Rattle.lg_x86.specs.declared.instruction.Cond.TheVariants.{Overflow, NoOverflow, Below, AboveOrEqual, Equal, NotEqual, BelowOrEqual, Above, Sign, NoSign, Less, GreaterOrEqual, LessOrEqual, Greater}
 
--- a row of a shape in which one number parts the rows: an opcode, or the digit that stands in the field
+-- a row of a shape in which one number parts the rows: an opcode, or the digit that is in the field
 -- reg of ModRM
 pub record Row : Type 0 where
   pub name : List ℕ
@@ -47,8 +47,8 @@ pub record DigitRow : Type 0 where
 abbrev pub digit_row : List ℕ → ℕ → ℕ → DigitRow
 digit_row name opcode digit = record { name = name; opcode = opcode; digit = digit }
 
--- a row of a shape in which the rows have prefixes of their own: whether the byte 66 stands first, when
--- REX stands, whether the byte 0F stands before the opcode, and the opcode
+-- a row of a shape in which the rows have prefixes of their own: whether the byte 66 is first, when
+-- REX stands, whether the byte 0F is before the opcode, and the opcode
 pub record PrefixRow : Type 0 where
   pub name : List ℕ
   pub word_sized : Bool
@@ -183,7 +183,7 @@ bare_row Nop = prefix_row (codes "nop") false Plain false 0x90
 abbrev pub bare_ops : List BareOp
 bare_ops = Cqo ∷ Ret ∷ Nop ∷ []
 
--- the rows that stand alone: the sum of two registers as an address; numbers to a register, of which the opcode is
+-- the rows that stand alone: the sum of two registers as an address; numbers to a register, whose opcode is
 -- that of the first register, but for movs32, which has digit 0; a register's bytes in reverse order, with the byte 0F
 -- in front of the opcode of the first register; and a jump by a distance of 8 bits
 abbrev pub lea2_row : Row
@@ -204,7 +204,7 @@ bswap_row = row (codes "bswap") 0xc8
 abbrev pub jump_short_row : Row
 jump_short_row = row (codes "jmp8") 0xeb
 
--- a row with a condition: what stands before and behind the condition's letters in the name, and the opcode of
+-- a row with a condition: what is before and after the condition's letters in the name, and the opcode of
 -- condition 0
 pub record ConditionRow : Type 0 where
   pub before : List ℕ
@@ -215,7 +215,7 @@ abbrev pub condition_row : List ℕ → List ℕ → ℕ → ConditionRow
 condition_row before behind opcode = record { before = before; behind = behind; opcode = opcode }
 
 -- jumps by a distance of 8 bits and of 32, and the setting of a register's low byte, which has digit 0; the byte 0F
--- stands in front of the opcodes of the last two
+-- is in front of the opcodes of the last two
 abbrev pub jump_if_short_row : ConditionRow
 jump_if_short_row = condition_row (codes "j") (codes "8") 0x70
 

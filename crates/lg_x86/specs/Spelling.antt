@@ -78,7 +78,7 @@ long_bytes z = to_le_bytes w32 (bits_of 2147483648 z)
 abbrev pub number_bytes : ℤ → List ℕ
 number_bytes z = if is_short z then short_bytes z else long_bytes z
 
--- the operand [base + disp], behind the opcode: mode 1 has a displacement of 8 bits, mode 2 of 32. The
+-- the operand [base + disp], after the opcode: mode 1 has a displacement of 8 bits, mode 2 of 32. The
 -- field rm of rsp and of r12 says that SIB follows, which says that there is no index
 abbrev pub memory_mode : ℤ → ℕ
 memory_mode disp = if is_short disp then 1 else 2

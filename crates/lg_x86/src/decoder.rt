@@ -26,7 +26,7 @@ use crate::prefixes::{
 };
 use crate::rows::Mark;
 
-/// The instruction that the bytes begin with, and its length, 1 to 10. `None` where no row's spelling
+/// Returns the instruction that the bytes begin with, and its length, 1 to 10, or `None` if no row's spelling
 /// begins them.
 #[inline(always)]
 pub fn decode(bytes: &[u8]) -> Option<(Instr, u32)>
@@ -125,7 +125,7 @@ fn read_short(
     read_digit(is_word_sized, rex, len, opcode, tail)
 }
 
-// behind this byte ModRM has a digit, and a register that a number or nothing is beside; or another instruction
+// after this byte ModRM has a digit, and a register that a number or nothing is beside; or another instruction
 #[inline(always)]
 #[tactic(auto, unfolding(crate::specs::Reading::read_digit))]
 fn read_digit(

@@ -11,7 +11,7 @@ use crate::instruction::{
 use crate::rows::Mark;
 use lg_base::Piece;
 
-/// The bytes of an instruction whose numbers are in its row's ranges: 1 to 10 bytes.
+/// Returns the bytes of an instruction whose numbers are in its row's ranges: 1 to 10 bytes.
 pub fn encode(instr: &Instr) -> Piece
     requires { IsInstr instr.now }
     ensures { result ≡ spelling instr.now }
@@ -50,7 +50,7 @@ pub fn encode(instr: &Instr) -> Piece
     }
 }
 
-// REX, where it stands
+// REX, where it is
 fn rex_piece(mark: Mark, bits: u8) -> Piece
     requires { bits < 8 }
     ensures value { result ≡ rex mark bits }
@@ -75,7 +75,7 @@ fn plain_rex(bits: u8) -> Piece
     }
 }
 
-// the size prefix and REX, where they stand
+// the size prefix and REX, where they are
 fn sized_rex_piece(is_word_sized: bool, mark: Mark, bits: u8) -> Piece
     requires { bits < 8 }
     ensures value { result ≡ size_prefix is_word_sized ++ rex mark bits }

@@ -1,4 +1,4 @@
-// The fields of REX, ModRM and SIB, and the numbers behind them.
+// The fields of REX, ModRM and SIB, and the numbers after them.
 
 ghost use Rattle.std.specs.Prelude.{◌≡◌, ◌<◌, ◌≤◌, ℕ, List, drop, length, slice_index};
 ghost use Rattle.lg_base.specs.Fields.{bits_of};
@@ -7,7 +7,7 @@ ghost use Rattle.lg_x86.specs.Reading.{opcode_reg, has_registers, has_one, is_di
 
 use lg_base::number::{from_bits, to_bits};
 
-/// The bits R, X and B of REX.
+/// Returns the bits R, X and B of REX.
 #[inline(always)]
 pub(crate) fn extension_of(reg: u8, index: u8, rm: u8) -> u8
     requires { (reg < 16) × (index < 16) × (rm < 16) }
@@ -17,7 +17,7 @@ pub(crate) fn extension_of(reg: u8, index: u8, rm: u8) -> u8
     reg / 8 * 4 + index / 8 * 2 + rm / 8
 }
 
-/// ModRM; only the low three bits of each register stand in it.
+/// ModRM; only the low three bits of each register are in it.
 #[inline(always)]
 pub(crate) fn modrm_of(mode: u8, reg: u8, rm: u8) -> u8
     requires { mode < 4 }
@@ -26,7 +26,7 @@ pub(crate) fn modrm_of(mode: u8, reg: u8, rm: u8) -> u8
     mode * 64 + reg % 8 * 8 + rm % 8
 }
 
-/// SIB of scale 0; only the low three bits of each register stand in it.
+/// SIB of scale 0; only the low three bits of each register are in it.
 #[inline(always)]
 pub(crate) fn sib_of(index: u8, base: u8) -> u8
     ensures { result ≡ sib index base }
@@ -34,7 +34,7 @@ pub(crate) fn sib_of(index: u8, base: u8) -> u8
     index % 8 * 8 + base % 8
 }
 
-/// Whether the number is one of 8 bits.
+/// Returns whether the number is one of 8 bits.
 #[inline(always)]
 pub(crate) fn fits_short(number: i32) -> bool
     ensures { result ≡ is_short number }
@@ -42,7 +42,7 @@ pub(crate) fn fits_short(number: i32) -> bool
     -128 <= number && number <= 127
 }
 
-/// The byte of a number from -128 to 127.
+/// Returns the byte of a number from -128 to 127.
 #[inline(always)]
 pub(crate) fn short_byte(number: i32) -> u8
     requires { IsNumber8 number }
@@ -51,7 +51,7 @@ pub(crate) fn short_byte(number: i32) -> u8
     to_bits(number, 1 << 7) as u8
 }
 
-/// The four bytes of a number.
+/// Returns the four bytes of a number.
 #[inline(always)]
 pub(crate) fn long_of(number: i32) -> [u8; 4]
     ensures value { result ≡ long_bytes number }
@@ -60,7 +60,7 @@ pub(crate) fn long_of(number: i32) -> [u8; 4]
     number.cast_unsigned().to_le_bytes()
 }
 
-/// The byte at a place, or 0 behind the last.
+/// Returns the byte at a place, or 0 after the last.
 #[inline(always)]
 pub(crate) fn byte_at(bytes: &[u8], place: usize) -> u8
     ensures { result ≡ slice_index bytes.now place }
@@ -68,7 +68,7 @@ pub(crate) fn byte_at(bytes: &[u8], place: usize) -> u8
     bytes.get(place).copied().unwrap_or(0)
 }
 
-/// The bytes from a place on.
+/// Returns the bytes from a place on.
 #[inline(always)]
 pub(crate) fn skip(bytes: &[u8], place: usize) -> &[u8]
     ensures { result.now ≡ drop place bytes.now }
@@ -80,7 +80,7 @@ pub(crate) fn skip(bytes: &[u8], place: usize) -> &[u8]
     }
 }
 
-/// The register whose low three bits stand in an opcode.
+/// Returns the register whose low three bits are in an opcode.
 #[inline(always)]
 pub(crate) fn opcode_register(rex: u8, opcode: u8) -> u8
     ensures value { result ≡ opcode_reg rex opcode }
@@ -89,7 +89,7 @@ pub(crate) fn opcode_register(rex: u8, opcode: u8) -> u8
     rex % 2 * 8 + opcode % 8
 }
 
-/// Whether ModRM names two registers.
+/// Returns whether ModRM names two registers.
 #[inline(always)]
 pub(crate) fn names_registers(tail: &[u8]) -> bool
     ensures { result ≡ has_registers tail.now }
@@ -97,7 +97,7 @@ pub(crate) fn names_registers(tail: &[u8]) -> bool
     byte_at(tail, 0) / 64 == 3
 }
 
-/// Whether ModRM names one register, beside the digit 0.
+/// Returns whether ModRM names one register, beside the digit 0.
 #[inline(always)]
 pub(crate) fn names_one(tail: &[u8]) -> bool
     ensures { result ≡ has_one tail.now }
@@ -105,7 +105,7 @@ pub(crate) fn names_one(tail: &[u8]) -> bool
     byte_at(tail, 0) / 8 == 24
 }
 
-/// The field reg of ModRM.
+/// Returns the field reg of ModRM.
 #[inline(always)]
 pub(crate) fn digit(tail: &[u8]) -> u8
     ensures { result ≡ digit_in tail.now }
@@ -113,7 +113,7 @@ pub(crate) fn digit(tail: &[u8]) -> u8
     byte_at(tail, 0) / 8 % 8
 }
 
-/// The register of the field reg of ModRM.
+/// Returns the register of the field reg of ModRM.
 #[inline(always)]
 pub(crate) fn reg_register(rex: u8, tail: &[u8]) -> u8
     ensures value { result ≡ reg_in rex tail.now }
@@ -122,7 +122,7 @@ pub(crate) fn reg_register(rex: u8, tail: &[u8]) -> u8
     rex / 4 % 2 * 8 + byte_at(tail, 0) / 8 % 8
 }
 
-/// The register of the field rm of ModRM.
+/// Returns the register of the field rm of ModRM.
 #[inline(always)]
 pub(crate) fn rm_register(rex: u8, tail: &[u8]) -> u8
     ensures value { result ≡ rm_in rex tail.now }
@@ -131,7 +131,7 @@ pub(crate) fn rm_register(rex: u8, tail: &[u8]) -> u8
     rex % 2 * 8 + byte_at(tail, 0) % 8
 }
 
-/// The index of SIB.
+/// Returns the index of SIB.
 #[inline(always)]
 pub(crate) fn index_register(rex: u8, tail: &[u8]) -> u8
     ensures value { result ≡ index_in rex tail.now }
@@ -140,7 +140,7 @@ pub(crate) fn index_register(rex: u8, tail: &[u8]) -> u8
     rex / 2 % 2 * 8 + byte_at(tail, 1) / 8 % 8
 }
 
-/// The base of SIB.
+/// Returns the base of SIB.
 #[inline(always)]
 pub(crate) fn base_register(rex: u8, tail: &[u8]) -> u8
     ensures value { result ≡ base_in rex tail.now }
@@ -149,7 +149,7 @@ pub(crate) fn base_register(rex: u8, tail: &[u8]) -> u8
     rex % 2 * 8 + byte_at(tail, 1) % 8
 }
 
-/// The number of 32 bits that the bytes begin with.
+/// Returns the number of 32 bits that the bytes begin with.
 #[inline(always)]
 pub(crate) fn word(bytes: &[u8]) -> u32
     ensures { result ≡ word_in bytes.now }
@@ -162,7 +162,7 @@ pub(crate) fn word(bytes: &[u8]) -> u32
     ])
 }
 
-/// The number of 64 bits that the bytes begin with.
+/// Returns the number of 64 bits that the bytes begin with.
 #[inline(always)]
 pub(crate) fn wide_word(bytes: &[u8]) -> u64
     ensures { result ≡ wide_in bytes.now }
@@ -179,7 +179,7 @@ pub(crate) fn wide_word(bytes: &[u8]) -> u64
     ])
 }
 
-/// The signed number of 8 bits that the bytes begin with.
+/// Returns the signed number of 8 bits that the bytes begin with.
 #[inline(always)]
 pub(crate) fn short_number(bytes: &[u8]) -> i32
     ensures value { result ≡ short_in bytes.now }
@@ -188,7 +188,7 @@ pub(crate) fn short_number(bytes: &[u8]) -> i32
     from_bits(byte_at(bytes, 0) as u32, 1 << 7)
 }
 
-/// The signed number of 32 bits that the bytes begin with.
+/// Returns the signed number of 32 bits that the bytes begin with.
 #[inline(always)]
 pub(crate) fn long_number(bytes: &[u8]) -> i32
     ensures value { result ≡ long_in bytes.now }
@@ -197,7 +197,7 @@ pub(crate) fn long_number(bytes: &[u8]) -> i32
     word(bytes).cast_signed()
 }
 
-/// The signed number that the bytes begin with, of 8 bits or else of 32.
+/// Returns the signed number that the bytes begin with, of 8 bits or else of 32.
 #[inline(always)]
 pub(crate) fn signed_number(is_short: bool, bytes: &[u8]) -> i32
     ensures value { result ≡ number_in is_short bytes.now }
@@ -210,7 +210,7 @@ pub(crate) fn signed_number(is_short: bool, bytes: &[u8]) -> i32
     }
 }
 
-/// The displacement, which stands behind ModRM and SIB.
+/// Returns the displacement, which is after ModRM and SIB.
 #[inline(always)]
 pub(crate) fn displacement(tail: &[u8]) -> i32
     ensures value { result ≡ disp_in tail.now }
@@ -220,7 +220,7 @@ pub(crate) fn displacement(tail: &[u8]) -> i32
     signed_number(modrm / 64 == 1, skip(tail, displacement_place(modrm)))
 }
 
-// where the displacement stands behind this ModRM: SIB follows where its field rm is 4
+// where the displacement is after this ModRM: SIB follows where its field rm is 4
 #[inline(always)]
 fn displacement_place(modrm: u8) -> usize
     ensures { (tail : List ℕ) → slice_index tail 0 ≡ modrm → result ≡ disp_place tail }
@@ -228,7 +228,7 @@ fn displacement_place(modrm: u8) -> usize
     if modrm % 8 == 4 { 2 } else { 1 }
 }
 
-/// Whether ModRM begins an operand in memory: SIB, where it stands, names no index, and the displacement is short where it can be.
+/// Returns whether ModRM begins an operand in memory: SIB, where it is, names no index, and the displacement is short where it can be.
 #[inline(always)]
 pub(crate) fn is_memory(tail: &[u8]) -> bool
     ensures { result ≡ is_memory tail.now }
@@ -238,7 +238,7 @@ pub(crate) fn is_memory(tail: &[u8]) -> bool
     is_based && is_displaced(modrm / 64, skip(tail, displacement_place(modrm)))
 }
 
-// whether the displacement behind this mode is there, and is short where it can be
+// whether the displacement after this mode is there, and is short where it can be
 #[inline(always)]
 fn is_displaced(mode: u8, bytes: &[u8]) -> bool
     ensures { result ≡ is_displaced mode bytes.now }
@@ -250,7 +250,7 @@ fn is_displaced(mode: u8, bytes: &[u8]) -> bool
     }
 }
 
-/// How many bytes an operand in memory has: 2 to 6.
+/// Returns how many bytes an operand in memory has: 2 to 6.
 #[inline(always)]
 pub(crate) fn memory_length(tail: &[u8]) -> u32
     ensures value { result ≡ memory_length tail.now }
@@ -261,7 +261,7 @@ pub(crate) fn memory_length(tail: &[u8]) -> u32
     displacement_place(modrm) as u32 + displacement_length
 }
 
-/// Whether ModRM and SIB name three registers, and no displacement.
+/// Returns whether ModRM and SIB name three registers, and no displacement.
 #[inline(always)]
 pub(crate) fn is_sum(tail: &[u8]) -> bool
     ensures { result ≡ is_sum tail.now }

@@ -27,7 +27,7 @@ pub enum Instr {
         reg: u8,
         rm: u8,
     },
-    /// `reg` gets what stands at the address `base + disp`, or this address.
+    /// `reg` gets what is at the address `base + disp`, or this address.
     Load {
         op: LoadOp,
         reg: u8,

@@ -62,8 +62,8 @@ macro_rules! op_with_digit {
     };
 }
 
-// the columns of a row with prefixes of its own: whether the byte 66 stands first, when REX stands,
-// whether the byte 0F stands before the opcode, the opcode
+// the columns of a row with prefixes of its own: whether the byte 66 is first, when REX stands,
+// whether the byte 0F is before the opcode, the opcode
 macro_rules! word_sized_of {
     ($op:expr; $type:ident; $($name:ident, $text:literal = $word_sized:literal, $mark:ident, $escaped:literal, $opcode:literal;)*) => {
         match $op { $($type::$name => $word_sized,)* }
@@ -227,14 +227,14 @@ macro_rules! conds {
 }
 
 impl RmRegOp {
-    /// The row's opcode.
+    /// Returns the row's opcode.
     pub(crate) fn opcode(self) -> u8
         ensures { result ≡ (rm_reg_row self).number }
     {
         rm_reg_rows!(number_of, self)
     }
 
-    /// The row's name.
+    /// Returns the row's name.
     pub(crate) fn name(self) -> &'static [u8]
         ensures same { result.now ≡ (rm_reg_row self).name }
         ensures short { length result.now ≤ 16 }
@@ -242,7 +242,7 @@ impl RmRegOp {
         rm_reg_rows!(name_of, self)
     }
 
-    /// The row with this opcode.
+    /// Returns the row with this opcode.
     #[inline(always)]
     #[tactic(auto, unfolding(crate::specs::Reading::rm_reg_by_opcode))]
     pub(crate) fn find(opcode: u8) -> Option<RmRegOp>
@@ -253,7 +253,7 @@ impl RmRegOp {
 }
 
 impl ImmOp {
-    /// The row's digit, which stands in the field reg of ModRM.
+    /// Returns the row's digit, which is in the field reg of ModRM.
     pub(crate) fn digit(self) -> u8
         ensures same { result ≡ (imm_row self).number }
         ensures fits { result < 8 }
@@ -261,7 +261,7 @@ impl ImmOp {
         imm_rows!(number_of, self)
     }
 
-    /// The row's name.
+    /// Returns the row's name.
     pub(crate) fn name(self) -> &'static [u8]
         ensures same { result.now ≡ (imm_row self).name }
         ensures short { length result.now ≤ 16 }
@@ -269,7 +269,7 @@ impl ImmOp {
         imm_rows!(name_of, self)
     }
 
-    /// The row with this digit.
+    /// Returns the row with this digit.
     #[inline(always)]
     #[tactic(auto, unfolding(crate::specs::Reading::imm_by_digit))]
     pub(crate) fn find(digit: u8) -> Option<ImmOp>
@@ -287,21 +287,21 @@ impl RegRmOp {
         reg_rm_rows!(mark_of, self)
     }
 
-    /// Whether the byte 0F stands before the opcode.
+    /// Returns whether the byte 0F is before the opcode.
     pub(crate) fn is_escaped(self) -> bool
         ensures { result ≡ (reg_rm_row self).escaped }
     {
         reg_rm_rows!(escaped_of, self)
     }
 
-    /// The row's opcode.
+    /// Returns the row's opcode.
     pub(crate) fn opcode(self) -> u8
         ensures { result ≡ (reg_rm_row self).opcode }
     {
         reg_rm_rows!(opcode_of, self)
     }
 
-    /// The row's name.
+    /// Returns the row's name.
     pub(crate) fn name(self) -> &'static [u8]
         ensures same { result.now ≡ (reg_rm_row self).name }
         ensures short { length result.now ≤ 16 }
@@ -309,7 +309,7 @@ impl RegRmOp {
         reg_rm_rows!(name_of, self)
     }
 
-    /// The row with these prefixes and this opcode.
+    /// Returns the row with these prefixes and this opcode.
     #[inline(always)]
     #[tactic(auto, unfolding(crate::specs::Reading::reg_rm_by_prefixes))]
     pub(crate) fn find(word_sized: bool, mark: Mark, escaped: bool, opcode: u8) -> Option<RegRmOp>
@@ -327,21 +327,21 @@ impl LoadOp {
         load_rows!(mark_of, self)
     }
 
-    /// Whether the byte 0F stands before the opcode.
+    /// Returns whether the byte 0F is before the opcode.
     pub(crate) fn is_escaped(self) -> bool
         ensures { result ≡ (load_row self).escaped }
     {
         load_rows!(escaped_of, self)
     }
 
-    /// The row's opcode.
+    /// Returns the row's opcode.
     pub(crate) fn opcode(self) -> u8
         ensures { result ≡ (load_row self).opcode }
     {
         load_rows!(opcode_of, self)
     }
 
-    /// The row's name.
+    /// Returns the row's name.
     pub(crate) fn name(self) -> &'static [u8]
         ensures same { result.now ≡ (load_row self).name }
         ensures short { length result.now ≤ 16 }
@@ -349,7 +349,7 @@ impl LoadOp {
         load_rows!(name_of, self)
     }
 
-    /// The row with these prefixes and this opcode.
+    /// Returns the row with these prefixes and this opcode.
     #[inline(always)]
     #[tactic(auto, unfolding(crate::specs::Reading::load_by_prefixes))]
     pub(crate) fn find(word_sized: bool, mark: Mark, escaped: bool, opcode: u8) -> Option<LoadOp>
@@ -360,7 +360,7 @@ impl LoadOp {
 }
 
 impl StoreOp {
-    /// Whether the byte 66 stands first.
+    /// Returns whether the byte 66 is first.
     pub(crate) fn is_word_sized(self) -> bool
         ensures { result ≡ (store_row self).word_sized }
     {
@@ -374,14 +374,14 @@ impl StoreOp {
         store_rows!(mark_of, self)
     }
 
-    /// The row's opcode.
+    /// Returns the row's opcode.
     pub(crate) fn opcode(self) -> u8
         ensures { result ≡ (store_row self).opcode }
     {
         store_rows!(opcode_of, self)
     }
 
-    /// The row's name.
+    /// Returns the row's name.
     pub(crate) fn name(self) -> &'static [u8]
         ensures same { result.now ≡ (store_row self).name }
         ensures short { length result.now ≤ 16 }
@@ -389,7 +389,7 @@ impl StoreOp {
         store_rows!(name_of, self)
     }
 
-    /// The row with these prefixes and this opcode.
+    /// Returns the row with these prefixes and this opcode.
     #[inline(always)]
     #[tactic(auto, unfolding(crate::specs::Reading::store_by_prefixes))]
     pub(crate) fn find(word_sized: bool, mark: Mark, escaped: bool, opcode: u8) -> Option<StoreOp>
@@ -400,14 +400,14 @@ impl StoreOp {
 }
 
 impl UnaryOp {
-    /// The row's opcode.
+    /// Returns the row's opcode.
     pub(crate) fn opcode(self) -> u8
         ensures { result ≡ (unary_row self).opcode }
     {
         unary_rows!(digit_opcode_of, self)
     }
 
-    /// The row's digit, which stands in the field reg of ModRM.
+    /// Returns the row's digit, which is in the field reg of ModRM.
     pub(crate) fn digit(self) -> u8
         ensures same { result ≡ (unary_row self).digit }
         ensures fits { result < 8 }
@@ -415,7 +415,7 @@ impl UnaryOp {
         unary_rows!(digit_of, self)
     }
 
-    /// The row's name.
+    /// Returns the row's name.
     pub(crate) fn name(self) -> &'static [u8]
         ensures same { result.now ≡ (unary_row self).name }
         ensures short { length result.now ≤ 16 }
@@ -423,7 +423,7 @@ impl UnaryOp {
         unary_rows!(name_of, self)
     }
 
-    /// The row with this opcode and digit.
+    /// Returns the row with this opcode and digit.
     #[inline(always)]
     #[tactic(auto, unfolding(crate::specs::Reading::unary_by_digit))]
     pub(crate) fn find(opcode: u8, digit: u8) -> Option<UnaryOp>
@@ -434,7 +434,7 @@ impl UnaryOp {
 }
 
 impl ShiftOp {
-    /// The row's digit, which stands in the field reg of ModRM.
+    /// Returns the row's digit, which is in the field reg of ModRM.
     pub(crate) fn digit(self) -> u8
         ensures same { result ≡ (shift_row self).number }
         ensures fits { result < 8 }
@@ -442,7 +442,7 @@ impl ShiftOp {
         shift_rows!(number_of, self)
     }
 
-    /// The row's name.
+    /// Returns the row's name.
     pub(crate) fn name(self) -> &'static [u8]
         ensures same { result.now ≡ (shift_row self).name }
         ensures short { length result.now ≤ 16 }
@@ -450,7 +450,7 @@ impl ShiftOp {
         shift_rows!(name_of, self)
     }
 
-    /// The row with this digit.
+    /// Returns the row with this digit.
     #[inline(always)]
     #[tactic(auto, unfolding(crate::specs::Reading::shift_by_digit))]
     pub(crate) fn find(digit: u8) -> Option<ShiftOp>
@@ -461,7 +461,7 @@ impl ShiftOp {
 }
 
 impl StackOp {
-    /// The row's opcode for register 0.
+    /// Returns the row's opcode for register 0.
     pub(crate) fn opcode(self) -> u8
         ensures same { result ≡ (stack_row self).number }
         ensures fits { result < 248 }
@@ -469,7 +469,7 @@ impl StackOp {
         stack_rows!(number_of, self)
     }
 
-    /// The row's name.
+    /// Returns the row's name.
     pub(crate) fn name(self) -> &'static [u8]
         ensures same { result.now ≡ (stack_row self).name }
         ensures short { length result.now ≤ 16 }
@@ -477,7 +477,7 @@ impl StackOp {
         stack_rows!(name_of, self)
     }
 
-    /// The row with this opcode.
+    /// Returns the row with this opcode.
     #[inline(always)]
     #[tactic(auto, unfolding(crate::specs::Reading::stack_by_opcode))]
     pub(crate) fn find(opcode: u8) -> Option<StackOp>
@@ -488,14 +488,14 @@ impl StackOp {
 }
 
 impl JumpNearOp {
-    /// The row's opcode.
+    /// Returns the row's opcode.
     pub(crate) fn opcode(self) -> u8
         ensures { result ≡ (jump_near_row self).number }
     {
         jump_near_rows!(number_of, self)
     }
 
-    /// The row's name.
+    /// Returns the row's name.
     pub(crate) fn name(self) -> &'static [u8]
         ensures same { result.now ≡ (jump_near_row self).name }
         ensures short { length result.now ≤ 16 }
@@ -503,7 +503,7 @@ impl JumpNearOp {
         jump_near_rows!(name_of, self)
     }
 
-    /// The row with this opcode.
+    /// Returns the row with this opcode.
     #[inline(always)]
     #[tactic(auto, unfolding(crate::specs::Reading::jump_near_by_opcode))]
     pub(crate) fn find(opcode: u8) -> Option<JumpNearOp>
@@ -514,7 +514,7 @@ impl JumpNearOp {
 }
 
 impl JumpRegOp {
-    /// The row's digit, which stands in the field reg of ModRM.
+    /// Returns the row's digit, which is in the field reg of ModRM.
     pub(crate) fn digit(self) -> u8
         ensures same { result ≡ (jump_reg_row self).number }
         ensures fits { result < 8 }
@@ -522,7 +522,7 @@ impl JumpRegOp {
         jump_reg_rows!(number_of, self)
     }
 
-    /// The row's name.
+    /// Returns the row's name.
     pub(crate) fn name(self) -> &'static [u8]
         ensures same { result.now ≡ (jump_reg_row self).name }
         ensures short { length result.now ≤ 16 }
@@ -530,7 +530,7 @@ impl JumpRegOp {
         jump_reg_rows!(name_of, self)
     }
 
-    /// The row with this digit.
+    /// Returns the row with this digit.
     #[inline(always)]
     #[tactic(auto, unfolding(crate::specs::Reading::jump_reg_by_digit))]
     pub(crate) fn find(digit: u8) -> Option<JumpRegOp>
@@ -548,14 +548,14 @@ impl BareOp {
         bare_rows!(mark_of, self)
     }
 
-    /// The row's opcode.
+    /// Returns the row's opcode.
     pub(crate) fn opcode(self) -> u8
         ensures { result ≡ (bare_row self).opcode }
     {
         bare_rows!(opcode_of, self)
     }
 
-    /// The row's name.
+    /// Returns the row's name.
     pub(crate) fn name(self) -> &'static [u8]
         ensures same { result.now ≡ (bare_row self).name }
         ensures short { length result.now ≤ 16 }
@@ -563,7 +563,7 @@ impl BareOp {
         bare_rows!(name_of, self)
     }
 
-    /// The row with these prefixes and this opcode.
+    /// Returns the row with these prefixes and this opcode.
     #[inline(always)]
     #[tactic(auto, unfolding(crate::specs::Reading::bare_by_prefixes))]
     pub(crate) fn find(word_sized: bool, mark: Mark, escaped: bool, opcode: u8) -> Option<BareOp>
@@ -574,7 +574,7 @@ impl BareOp {
 }
 
 impl Cond {
-    /// The condition's number in opcodes: 0 to 9 and 12 to 15.
+    /// Returns the condition's number in opcodes: 0 to 9 and 12 to 15.
     pub fn number(self) -> u8
         ensures same { result ≡ (cond_row self).number }
         ensures fits { result < 16 }
@@ -596,7 +596,7 @@ impl Cond {
         conds!(name_of, self)
     }
 
-    /// The condition with this number.
+    /// Returns the condition with this number.
     #[inline(always)]
     #[tactic(auto, unfolding(crate::specs::Reading::cond_by_number))]
     pub(crate) fn find(number: u8) -> Option<Cond>
@@ -607,7 +607,7 @@ impl Cond {
 }
 
 impl Instr {
-    /// The row's name, as a listing prints it: `addi`, and with the letters of its condition `jne32`.
+    /// Returns the row's name, as a listing prints it: `addi`, and with the letters of its condition `jne32`.
     pub fn name(&self) -> Piece
         ensures { result ≡ name_of self.now }
     {

@@ -18,8 +18,7 @@ use std::process::ExitCode;
 use std::rt::{Stderr, Stdout};
 use std::{env, io};
 
-// The words of the process, the program's name first, or the answer where there are none: words that are no text are of no form of the
-// command.
+// Returns the words of the process, the program's name first, or the answer where there are none: words that are no text are of no form of the command.
 fn words(rt: &HostRuntime) -> Result<Vec<String>, Answer> {
     let mut words = Vec::new(rt.alloc());
     match env::args(rt) {
@@ -36,7 +35,7 @@ fn words(rt: &HostRuntime) -> Result<Vec<String>, Answer> {
     }
 }
 
-// The status that the process ends with.
+// Returns the status that the process ends with.
 fn exit_code(answer: &Answer) -> ExitCode
     ensures { exit_status result ≡ status_of_answer answer.now }
 {

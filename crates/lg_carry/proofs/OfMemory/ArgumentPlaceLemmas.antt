@@ -92,7 +92,7 @@ module _ {Q I : Type 0} (R : Rows Q I) (scratch : ℕ → Bool) (fits : I → Ty
       let same : homes_at c s.at ≡ homes_at c i = ap (homes_at c) at in
       omega (arith, lt, least, same)
 
-  -- an argument that the node reads stands in its place
+  -- an argument that the node reads is in its place
   pub stands-there : (k v : ℕ) → k < homes_by n.op n → slice_get s.frame.args k ≡ Some v
       → HasWord (R.processor.seen q).bytes (argument_place target s.frame.sp k) v × IsApart s.frame.sp (argument_place target s.frame.sp k)
   stands-there k v reads given = by (nat_lt k (length (argument_registers target))) refl

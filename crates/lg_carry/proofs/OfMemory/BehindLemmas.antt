@@ -1,4 +1,4 @@
--- Code behind code that only computes.
+-- Code after code that only computes.
 use Rattle.std.proofs.Common.{◌≡◌, ℕ, ◌+◌, ◌-◌, ◌*◌, ◌≤◌, Bool, true, false, List, [], ◌∷◌, ◌++◌, Option, refl, ap, ◌∙◌, arith, length, length-append}
 use Rattle.std.specs.Prelude.{◌&&◌, is_some}
 use Rattle.std.proofs.lemmas.Bool.{and_parts}
@@ -38,7 +38,7 @@ no-slots fp a on = absurd (let z = within-where _ 0 a on in omega (arith, z.0, z
 pub more-slots : (fp n a : ℕ) → n ≤ 5 → in_first_slots fp n a ≡ true → in_first_slots fp 5 a ≡ true
 more-slots fp n a most on = let z = within-where (fp - (88 + 8 * n)) (8 * n) a on in grind (arith, z.0, z.1, most)
 
--- what code does, with the words that it leaves told otherwise: registers that it may spoil do not count, nor do bytes of the slots
+-- what code does, with the words that it leaves described otherwise: registers that it may spoil do not count, nor do bytes of the slots
 pub told : {Q I : Type 0} (R : Rows Q I) (s : Seen) (V W : ℕ → ℕ) (B M : ℕ → Option ℕ) (E F : Flags) (is : List I) (fp n : ℕ) (T : ℕ → Bool) → ((r : ℕ) → T r ≡ false → V r ≡ W r) → ((a : ℕ) → in_slots fp a ≡ false → B a ≡ M a) → E ≡ F
     → Does R (from_to s V B E) is fp n T → Does R (from_to s W M F) is fp n T
 told R s V W B M E F is fp n T registers bytes flags does q looks room =
@@ -54,7 +54,7 @@ told R s V W B M E F is fp n T registers bytes flags does q looks room =
       has_flags = l.has_flags ∙ flags;
     }
 
--- code behind code that spoils no register and no slot; the first slots stay that the latter keeps
+-- code after code that spoils no register and no slot; the first slots stay that the latter keeps
 pub in-a-row : {Q I : Type 0} (R : Rows Q I) (s : Seen) (V W : ℕ → ℕ) (B M : ℕ → Option ℕ) (E F : Flags) (xs ys : List I) (fp n : ℕ) (T : ℕ → Bool) → n ≤ 5 → Does R (from_to s V B E) xs fp 5 (λ r. false)
     → Does R (from_to (record s { registers = V; bytes = B; flags = E }) W M F) ys fp n T → Does R (from_to s W M F) (xs ++ ys) fp n T
 in-a-row R s V W B M E F xs ys fp n T most first second q looks room =
@@ -88,7 +88,7 @@ all-compute-append computes (x ∷ xs) ys h k =
     let b = and_parts (computes x) (all_compute computes xs) h in
     ap (λ z. z && all_compute computes (xs ++ ys)) b.0 ∙ all-compute-append computes xs ys b.1 k
 
--- what is seen behind code that only computes
+-- what is seen after code that only computes
 abbrev pub seen_behind : {Q I : Type 0} → Computer Q I → List I → Seen → Seen
 seen_behind M xs s =
     record s {
@@ -96,7 +96,7 @@ seen_behind M xs s =
       flags = (computed M.computed_by xs record { registers = s.registers; flags = s.flags }).flags;
     }
 
--- code behind such code
+-- code after such code
 pub behind-computed : {Q I : Type 0} (M : Computer Q I) → IsComputer M → (xs ys : List I) (s : Seen) (W : ℕ → ℕ) (B : ℕ → Option ℕ) (F : Flags) (fp n : ℕ) (T : ℕ → Bool) → n ≤ 5 → all_compute M.computes xs ≡ true
     → Does M.rows (from_to (seen_behind M xs s) W B F) ys fp n T → Does M.rows (from_to s W B F) (xs ++ ys) fp n T
 behind-computed M ok xs ys s W B F fp n T most h does =

@@ -56,7 +56,7 @@ straight-crosses R fits ok w code fp n T block does q from looks k high at =
       has_flags = l.has_flags;
     }
 
--- what stands between saves and restores is a block where all of it is one
+-- what is between saves and restores is a block where all of it is one
 block-tail : {I : Type 0} (straight : I → Bool) (x : I) (xs : List I) → IsBlock straight (x ∷ xs) → IsBlock straight xs
 block-tail straight x [] h = tt
 block-tail straight x (y ∷ xs) h = h.1
@@ -73,7 +73,7 @@ block-within R (Own r ∷ choices) body h = block-within R choices body h
 block-within R (Spill r k ∷ choices) body h =
     block-within R choices body (block-front R.is_straight (wrapped R choices body) (R.restore r k ∷ []) (block-tail R.is_straight (R.save r k) (wrapped R choices body ++ R.restore r k ∷ []) h))
 
--- behind a part of the code another instruction may stand
+-- after a part of the code another instruction may be
 places-from : {Q I : Type 0} (R : Rows Q I) (fits : I → Type 0) → AreRows R fits → (xs : List I) (pc : ℕ) → All fits xs → R.is_place pc ≡ true → R.is_place (pc + length (spellings R.spelling xs)) ≡ true
 places-from R fits ok [] pc all at = subst (λ n. R.is_place n ≡ true) (omega arith) at
 places-from R fits ok (x ∷ xs) pc all at =
@@ -121,7 +121,7 @@ module _ {Q I : Type 0} (R : Rows Q I) (fits : I → Type 0) (ok : AreRows R fit
       (part-passes R fits ok false from front part back q (subst (StandsAt R false fits from) e k) at block through)
 
   -- ---- two ways
-  -- front, a branch b over what is slow and a jump j behind what is fast
+  -- front, a branch b over what is slow and a jump j after what is fast
   abbrev forked : List I → I → List I → I → List I → List I
   forked front b slow j fast = front ++ (b ∷ (slow ++ (j ∷ fast)))
 

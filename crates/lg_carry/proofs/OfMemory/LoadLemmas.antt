@@ -35,7 +35,7 @@ use Rattle.lg_carry.proofs.OfNodes.ByteLemmas.{mapped-where, loaded-more, loaded
 use Rattle.lg_carry.proofs.OfNodes.StraightLemmas.{carry-moved}
 use Rattle.lg_carry.proofs.OfMemory.WriteLemmas.{crosses-word}
 
--- what is read is what stands there
+-- what is read is what is there
 read-there : (s : State) (a w v : ℕ) → steps.read s a w ≡ Some v → loaded s.mem a w ≡ Some v
 read-there s a w v e = by (writable (is_open s) a w) e
   where

@@ -53,7 +53,7 @@ width-few value_type.Int = omega arith
 width-few value_type.UnsignedInt = omega arith
 width-few value_type.Long = omega arith
 
--- where a word stands, the number of its first bytes is its low part
+-- where a word is, the number of its first bytes is its low part
 pub part-loaded : (m : ℕ → Option ℕ) (a v : ℕ) (t : ValueType) → ((a b : ℕ) → m a ≡ Some b → b < 256) → loaded m a 8 ≡ Some v → loaded m a (width t) ≡ Some (v % 256 ^ width t)
 part-loaded m a v t small e =
     let k = mapped-where (mapped m a 8) (number_at (byte_or_zero m) a 8) v e in

@@ -1,4 +1,4 @@
--- Operands whose numbers are words, and whose labels are among so many, or lie low.
+-- Operands whose numbers are words, and whose labels are among n, or lie low.
 use Rattle.std.proofs.Common.{ℕ, ◌^◌, ◌<◌, List, [], ◌∷◌}
 use Rattle.std.specs.Prelude.{slice_index}
 use Rattle.lg_op.specs.declared.operand.Operand.{Operand}

@@ -1,4 +1,4 @@
--- Where labels lead, and how a run that comes to the place of a node leads there.
+-- Where labels lead, and how a run that reaches the place of a node leads there.
 use Rattle.std.proofs.Common.{◌≡◌, ◌≢◌, ℕ, ◌+◌, ◌<◌, ◌≤◌, inl, Bool, true, false, List, [], ◌∷◌, ◌++◌, Option, Some, None, refl, sym, ap, ◌∙◌, subst, arith, length, append-nil, length-append}
 use Rattle.std.specs.Prelude.{slice_get, slice_index, if◌then◌else◌}
 use Rattle.std.specs.Option.{option_flatten}
@@ -75,7 +75,7 @@ jump-lands c i n t l inside h = by (home c.nodes.nodes i) refl h
 
 -- ---- in the text
 module _ (c : Code) (i : ℕ) (n : Node) (t : IsInText c i n) where
-  -- a node that may not stand outside of every function stands in one
+  -- a node that may not be outside of every function is in one
   pub in-some : may_stand_outside n.op (is_begun c.nodes.nodes i) ≡ false → (p : ℕ) × (home c.nodes.nodes i ≡ Some p)
   in-some out = inside_one (home c.nodes.nodes i) (may_stand_outside n.op (is_begun c.nodes.nodes i)) out (t.well.passes i n t.here).1.0
 
@@ -85,14 +85,14 @@ module _ (c : Code) (i : ℕ) (n : Node) (t : IsInText c i n) where
       differ : false ≡ true → ⊥
       differ e = cc
 
-  -- and behind its `prolog`
+  -- and after its `prolog`
   pub behind-prolog : (p : ℕ) → home c.nodes.nodes i ≡ Some p → is_prolog n.op ≡ false → is_inside c i ≡ true
   behind-prolog p h other = inner-is (home c.nodes.nodes i) i p h (λ e. no-entry other (h ∙ ap Some e))
 
   pub stands-inside : may_stand_outside n.op (is_begun c.nodes.nodes i) ≡ false → is_prolog n.op ≡ false → is_inside c i ≡ true
   stands-inside out other = let p = in-some out in behind-prolog p.0 p.1 other
 
-  -- the next node stands behind the same `prolog`
+  -- the next node is after the same `prolog`
   pub next-inside : (p : ℕ) → home c.nodes.nodes i ≡ Some p → is_epilog n.op ≡ false → is_inside c (i + 1) ≡ true
   next-inside p h other = (shaped c.nodes t.well).next i p h (ap is_epilog_at t.here ∙ other)
 
@@ -100,7 +100,7 @@ module _ (c : Code) (i : ℕ) (n : Node) (t : IsInText c i n) where
   in-nodes = slice_get_within c.nodes.nodes i n t.here
 
 -- ---- in the code
--- the code of a node stands there
+-- the code of a node is there
 pub node-stands : {Q I : Type 0} (R : Rows Q I) (moves : Bool) (fits : I → Type 0) (c : Code) (i : ℕ) (is : List I) → moves_at R.processor.target (slice_get c.nodes.nodes i) ≡ moves → IsNodeCode R fits c i is
     → StandsAt R moves fits (c.place i) is
 node-stands R moves fits c i is same k = record { low = k.low; place = k.place; more = k.more; stands = k.stands; fit = k.fit; outside = subst (λ b. All (StaysOutside R b) is) same k.outside }
@@ -120,7 +120,7 @@ to-label R c w l k e le =
     let bound = bound-at c.nodes.places l (place.Node k) e in
     subst (IsThere R.is_place) (sym (w.nodes.bound l.0 k bound)) (there R c w k le (inl (l.0, bound)))
 
--- an instruction may stand behind others
+-- an instruction may be after others
 place-behind : {Q I : Type 0} (R : Rows Q I) (fits : I → Type 0) → AreRows R fits → (is : List I) (pc : ℕ) → All fits is → R.is_place pc ≡ true → R.is_place (pc + length (spellings R.spelling is)) ≡ true
 place-behind R fits rows [] pc fit e = let z : pc ≡ pc + 0 = omega arith in subst (λ x. R.is_place x ≡ true) z e
 place-behind R fits rows (x ∷ is) pc fit e =
@@ -128,13 +128,13 @@ place-behind R fits rows (x ∷ is) pc fit e =
     let z : pc + length (R.spelling x) + length (spellings R.spelling is) ≡ pc + length (spellings R.spelling (x ∷ is)) = omega (arith, size) in
     subst (λ p. R.is_place p ≡ true) z (place-behind R fits rows is (pc + length (R.spelling x)) (All-tail fits x is fit) (rows.places pc x (All-head fits x is fit) e))
 
--- so it may behind the code of a node
+-- so it may after the code of a node
 pub there-behind : {Q I : Type 0} (R : Rows Q I) (fits : I → Type 0) → AreRows R fits → (c : Code) → HasPlaces R c → (i : ℕ) (is : List I) → i < length c.nodes.nodes → IsNodeCode R fits c i is → IsThere R.is_place (behind R (c.place i) is)
 there-behind R fits rows c w i is lt k =
     let low = w.nodes.low (i + 1) (omega (arith, lt)) in let high = w.nodes.high (i + 1) (omega (arith, lt)) in let next = k.next in
     record { low = omega (arith, low, next); high = omega (arith, high, next); place = place-behind R fits rows is (c.place i) k.fit k.place }
 
--- ---- a run that comes to the place of a node
+-- ---- a run that reaches the place of a node
 module _ {Q I : Type 0} (R : Rows Q I) (scratch : ℕ → Bool) (fits : I → Type 0) (isa : IsIsa R scratch fits) (c : Code) (i : ℕ) (n : Node) (t : IsInText c i n)
     (high : ℕ) (next : c.place (i + 1) ≡ high) where
   abbrev target : Target

@@ -31,7 +31,7 @@ named-later m f fs a x xs h = ap (λ z. z || (is_for m f && is_register a x)) h
 pub read-is-live : (n : Node) (S : ℕ → Bool) (a : Reg) → (a ≢ Fp → is_read n a ≡ true) → a ≢ Fp → live_before n S (number_of a) ≡ true
 read-is-live n S a h ne = ap (λ z. z || (S (number_of a) && not (numbered (is_written n) (number_of a)))) (numbered-at (is_read n) a ne ∙ h ne)
 
--- a word that stands for itself
+-- a word that denotes itself
 pub immediate-value : (addresses : List ℕ) (s : State) (x : Operand) (v : ℕ) → immediate x ≡ Some v → value addresses s x ≡ Some v
 immediate-value addresses s (operand.Number k) v e = e
 immediate-value addresses s (operand.Host name) v e = e

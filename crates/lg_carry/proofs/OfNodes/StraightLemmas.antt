@@ -242,7 +242,7 @@ module _ {Q I : Type 0} (R : Rows Q I) (scratch : ℕ → Bool) (fits : I → Ty
   or-last true z b g e = refl
   or-last false z b g e = rw (g, e) refl
 
-  -- what is live behind the node and is not written was live before it
+  -- what is live after the node and is not written was live before it
   pub still : (r : ℕ) → S r ≡ true → numbered (is_written n) r ≡ false → live_before n S r ≡ true
   still r m off = or-last (numbered (is_read n) r) (S r) (numbered (is_written n) r) m off
 
@@ -409,7 +409,7 @@ module _ {Q I : Type 0} (R : Rows Q I) (scratch : ℕ → Bool) (fits : I → Ty
           mark = leaves.has_mark ∙ st.mark ∙ sym mark;
         }
 
-        -- where states agree behind the code, it leads there
+        -- where states agree after the code, it leads there
         pub leads : (out : List ℕ) → R.processor.machine.out q ≡ out → StatesAgree target c frames to (R.processor.seen u) S
             → (step c.nodes c.shape c.addresses s ≡ Undefined) ⊎ Leads R.processor c frames (live_behind frames n S s) i (step c.nodes c.shape c.addresses s) out q
         leads out wrote agree =

@@ -1,4 +1,4 @@
--- Instructions that stand somewhere in the code are passed, one run behind the other.
+-- Instructions that stand somewhere in the code are passed, one run after the other.
 use Rattle.std.proofs.Common.{◌≡◌, ℕ, zero, suc, ◌+◌, ◌-◌, ◌<◌, ◌≤◌, Bool, true, ⊎_elim, List, [], ◌∷◌, ◌++◌, refl, sym, ap, ◌∙◌, subst, arith, length, drop, append_assoc, length-append}
 use Rattle.std.proofs.lemmas.Bool.{cases_lt}
 use Rattle.std.specs.List.{All}
@@ -30,7 +30,7 @@ all-back fits [] ys h = h
 all-back fits (x ∷ xs) ys h = all-back fits xs ys (λ k d lt. h (suc k) d (omega (arith, lt)))
 
 module _ {Q I : Type 0} (R : Rows Q I) (fits : I → Type 0) (ok : AreRows R fits) where
-  -- behind instructions another one may stand
+  -- after instructions another one may be
   places-behind : (xs : List I) (pc : ℕ) → All fits xs → R.is_place pc ≡ true → R.is_place (pc + length (spellings R.spelling xs)) ≡ true
   places-behind [] pc all at = subst (λ n. R.is_place n ≡ true) (omega arith) at
   places-behind (x ∷ xs) pc all at =
@@ -38,7 +38,7 @@ module _ {Q I : Type 0} (R : Rows Q I) (fits : I → Type 0) (ok : AreRows R fit
       let e : pc + length (R.spelling x) + length (spellings R.spelling xs) ≡ pc + length (spellings R.spelling (x ∷ xs)) = omega (arith, size) in
       subst (λ n. R.is_place n ≡ true) e (places-behind xs (pc + length (R.spelling x)) (λ k d lt. all (suc k) d (omega (arith, lt))) (ok.places pc x (all 0 x (omega arith)) at))
 
-  -- a part of instructions that stand in the code is run
+  -- a part of instructions that are in the code is run
   module _ (moves : Bool) (from : ℕ) (front part back : List I) (q : Q) (k : StandsAt R moves fits from (front ++ (part ++ back)))
       (at : (R.processor.seen q).pc ≡ from + length (spellings R.spelling front)) (block : IsBlock R.is_straight part)
       (through : GoesThrough R.does R.processor.machine.status (IsAbove R) part q) where
@@ -81,7 +81,7 @@ module _ {Q I : Type 0} (R : Rows Q I) (fits : I → Type 0) (ok : AreRows R fit
           keeps = run.keeps;
         }
 
--- ---- one behind the other
+-- ---- one after the other
 module _ {Q : Type 0} (P : Processor Q) where
   pub none-passed : (moves : Bool) (low high : ℕ) (q : Q) → PassesIn P moves low high 0 q q
   none-passed moves low high q = record {

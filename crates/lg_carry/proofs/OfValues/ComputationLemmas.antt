@@ -26,7 +26,7 @@ computed-append by (x ∷ xs) ys w = computed-append by xs ys (by x w)
 spelled-cons : {I : Type 0} (spelling : I → List ℕ) (i : I) (is : List I) → length (spellings spelling (i ∷ is)) ≡ length (spelling i) + length (spellings spelling is)
 spelled-cons spelling i is = length-append (spelling i) (spellings spelling is)
 
--- a list of them goes through from a state, and leaves what it computes; memory stays, and the program counter is behind them
+-- a list of them goes through from a state, and leaves what it computes; memory stays, and the program counter is after them
 pub record RunsThrough {Q I : Type 0} (M : Computer Q I) (is : List I) (q : Q) : Type 0 where
   pub through : GoesThrough M.rows.does M.rows.processor.machine.status (IsAbove M.rows) is q
   pub runs : M.rows.processor.machine.status (done M.rows.does is q) ≡ Running

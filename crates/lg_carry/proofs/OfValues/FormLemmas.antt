@@ -52,7 +52,7 @@ is-count (operand.Label l) h = cc
 is-count (operand.Host name) h = cc
 is-count (operand.Slot s) h = cc
 
--- the operands of so many forms
+-- the operands of this many forms
 pub record OneOperand (f : Form) (xs : List Operand) : Type 0 where
   pub x : Operand
   pub are : xs ≡ x ∷ []

@@ -1,4 +1,4 @@
--- Nodes of one word, on any target: the carry is gone behind them, or stays.
+-- Nodes of one word, on any target: the carry is gone after them, or stays.
 use Rattle.std.proofs.Common.{◌≡◌, ◌≢◌, ℕ, ◌⊎◌, inl, inr, Bool, true, false, List, [], ◌∷◌, Option, Some, refl, sym, ap, ◌∙◌}
 use Rattle.std.specs.Prelude.{◌||◌, if◌then◌else◌}
 use Rattle.lg_op.specs.declared.op.UnaryOp.{UnaryOp}

@@ -33,7 +33,7 @@ address_word target w (At v) = v
 address_word target w (Sum a b) = add_words (w (register_of target a)) (w (register_of target b))
 address_word target w (Index a v) = add_words (w (register_of target a)) v
 
--- none of so many bytes from an address on lies below the stack pointer and its zone
+-- none of this many bytes from an address on lies below the stack pointer and its zone
 abbrev pub LiesAbove : Target → ℕ → ℕ → ℕ → Type 0
 LiesAbove target stack a w = IsOff (is_below target stack) record { from = a; width = w }
 

@@ -21,7 +21,7 @@ use Rattle.lg_carry.specs.Nodes.Stretches.{HasFrame}
 use Rattle.lg_carry.specs.Memory.Loads.{IsReadable, Reads}
 use Rattle.lg_carry.specs.Memory.Operands.{named}
 
--- the code that reads an argument, by its number, by a type into a register, in a frame of so many bytes
+-- the code that reads an argument, by its number, by a type into a register, in a frame of this many bytes
 abbrev pub ArgumentCode : Type 0 → Type 0
 ArgumentCode I = ℕ → ValueType → Reg → ℕ → List I
 
@@ -46,7 +46,7 @@ HasArgumentCode R code = (frame : ℕ) (t : ValueType) (d : Reg) (k : ℕ) → k
 abbrev pub argument_of : {I : Type 0} → ArgumentCode I → ℕ → ValueType → Node → List I
 argument_of code frame t n = if nat_lt (slot (operand_at n 1)) 16 then code frame t (named (operand_at n 0)) (slot (operand_at n 1)) else []
 
--- such a node is carried by it, whatever is live behind it
+-- such a node is carried by it, whatever is live after it
 abbrev pub ArgumentsCarry : {Q I : Type 0} → Rows Q I → (I → Type 0) → ArgumentCode I → Type 0
 ArgumentsCarry R fits code =
     (c : Code) (i : ℕ) (n : Node) (t : ValueType) (frame : ℕ) (S : ℕ → Bool) → n.op ≡ op.Getarg t → IsInText c i n → IsFrameOf c i frame

@@ -1,4 +1,4 @@
--- Code that may branch within itself, and goes on behind itself: where it stands somewhere, a run crosses it.
+-- Code that may branch within itself, and continues after itself: where it is somewhere, a run crosses it.
 use Rattle.std.specs.Prelude.{◌≡◌, ℕ, ◌+◌, ◌<◌, ◌≤◌, ◌⊎◌, Bool, true, false, List, [], length, Option}
 use Rattle.lg_base.specs.Layout.{code_base, most_code, frame_pointer}
 use Rattle.lg_base.specs.Runs.{Running}
@@ -16,7 +16,7 @@ use Rattle.lg_carry.specs.Spills.{in_slots, in_first_slots, Looks, Work, spilled
 use Rattle.lg_carry.specs.Nodes.Straight.{spoils, HoldsRead, HoldsWritten, IsKept, GoesOn, from_to}
 use Rattle.lg_carry.specs.Nodes.Stretches.{StandsAt, behind, PassesIn}
 
--- so many steps at most lead from an address to another one, behind the code, and leave the registers W but for those of T, the bytes M but for the slots,
+-- this many steps at most lead from an address to another one, after the code, and leave the registers W but for those of T, the bytes M but for the slots,
 -- and this mark and flags; the first n slots are kept
 pub record Crosses {Q I : Type 0} (R : Rows Q I) (low high most fp n : ℕ) (W : ℕ → ℕ) (M : ℕ → Option ℕ) (mark : ℕ) (flags : Flags)
     (T : ℕ → Bool) (q : Q) : Type 0 where
@@ -32,7 +32,7 @@ pub record Crosses {Q I : Type 0} (R : Rows Q I) (low high most fp n : ℕ) (W :
   pub has_mark : (R.processor.seen end).mark ≡ mark
   pub has_flags : (R.processor.seen end).flags ≡ flags
 
--- code does so in at most as many steps as it has instructions, from every state that looks so, wherever it stands and whatever stands in the slots
+-- code does so in at most as many steps as it has instructions, from every state that looks so, wherever it is and whatever is in the slots
 abbrev pub CrossesCode : {Q I : Type 0} → Rows Q I → (I → Type 0) → Work → List I → ℕ → ℕ → (ℕ → Bool) → Type 0
 CrossesCode {Q} R fits w code fp n T =
     (q : Q) (from : ℕ) → Looks R fp w.registers w.bytes w.mark w.flags q → StandsAt R false fits from code → behind R from code ≤ code_base + most_code
@@ -49,7 +49,7 @@ pub record LeadsTo {Q I : Type 0} (R : Rows Q I) (x : I) (q : Q) (to : ℕ) : Ty
   pub has_mark : (R.processor.seen (R.does x q)).mark ≡ (R.processor.seen q).mark
   pub has_flags : (R.processor.seen (R.does x q)).flags ≡ (R.processor.seen q).flags
 
--- from a state with these registers, wherever it stands, it leads so many bytes behind itself
+-- from a state with these registers, wherever it is, it leads this many bytes after itself
 abbrev pub Skips : {Q I : Type 0} → Rows Q I → I → (ℕ → ℕ) → ℕ → Type 0
 Skips {Q} R x registers distance =
     (q : Q) → R.processor.machine.status q ≡ Running → ((r : ℕ) → (R.processor.seen q).registers r ≡ registers r) → code_base ≤ (R.processor.seen q).pc

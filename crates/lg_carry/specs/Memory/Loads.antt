@@ -31,7 +31,7 @@ use Rattle.lg_carry.specs.Memory.Accesses.{Address, address_of, address_word, Is
 use Rattle.lg_carry.specs.Memory.Crossings.{CrossesCode}
 use Rattle.lg_carry.specs.Memory.Operands.{named, names_label, HasWords}
 
--- the code of a load by a type into a register, in a frame of so many bytes
+-- the code of a load by a type into a register, in a frame of this many bytes
 abbrev pub LoadCode : Type 0 → Type 0
 LoadCode I = ℕ → ValueType → Reg → Address → List I
 
@@ -81,7 +81,7 @@ HasCode R code = (frame : ℕ) (t : ValueType) (d : Reg) (at : Address) → 0 < 
 abbrev pub load_of : {I : Type 0} → LoadCode I → ℕ → ValueType → Addressing → Node → List I
 load_of code frame t at n = code frame t (named (operand_at n 0)) (address_of at (operand_at n 1) (operand_at n 2))
 
--- a load that names no label is carried by it, whatever is live behind it
+-- a load that names no label is carried by it, whatever is live after it
 abbrev pub LoadsCarry : {Q I : Type 0} → Rows Q I → (I → Type 0) → LoadCode I → Type 0
 LoadsCarry R fits code =
     (c : Code) (i : ℕ) (n : Node) (t : ValueType) (at : Addressing) (frame : ℕ) (S : ℕ → Bool) → n.op ≡ op.Load t at → names_label n ≡ false → HasWords n

@@ -25,7 +25,7 @@ use Rattle.lg_carry.specs.Nodes.Stretches.{HasFrame}
 use Rattle.lg_carry.specs.Memory.Operands.{HasWords, operand_word}
 use Rattle.lg_carry.specs.Memory.Stores.{IsWritable}
 
--- the code that passes an operand as an argument, by its number: in a frame of so many bytes, with these addresses of the labels, from an address on
+-- the code that passes an operand as an argument, by its number: in a frame of this many bytes, with these addresses of the labels, from an address on
 abbrev pub PushCode : Type 0 → Type 0
 PushCode I = ℕ → (ℕ → ℕ) → ℕ → ℕ → Operand → List I
 
@@ -68,7 +68,7 @@ HasPushCode R code =
     (frame : ℕ) (to : ℕ → ℕ) (from j : ℕ) (x : Operand) → j < 16 → ((k : ℕ) → x ≢ operand.Slot k) → ((v : ℕ) → x ≡ operand.Number v → v < 2 ^ 64)
     → 0 < length (spellings R.spelling (code frame to from j x))
 
--- a node that passes an argument, where so many are passed before it, is carried by it, whatever is live behind it
+-- a node that passes an argument, where this many are passed before it, is carried by it, whatever is live after it
 abbrev pub PushesCarry : {Q I : Type 0} → Rows Q I → (I → Type 0) → PushCode I → Type 0
 PushesCarry R fits code =
     (c : Code) (i : ℕ) (n : Node) (last : LastOperand) (frame : ℕ) (S : ℕ → Bool) → n.op ≡ op.Control control.Pusharg last → HasWords n → NamesCode c n

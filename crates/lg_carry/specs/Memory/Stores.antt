@@ -30,7 +30,7 @@ use Rattle.lg_carry.specs.Memory.Accesses.{Address, address_of, address_word, Is
 use Rattle.lg_carry.specs.Memory.Crossings.{CrossesCode}
 use Rattle.lg_carry.specs.Memory.Operands.{named, names_label, HasWords}
 
--- the code of a store by a type of a register, in a frame of so many bytes
+-- the code of a store by a type of a register, in a frame of this many bytes
 abbrev pub StoreCode : Type 0 → Type 0
 StoreCode I = ℕ → StoreType → Address → Reg → List I
 
@@ -38,7 +38,7 @@ StoreCode I = ℕ → StoreType → Address → Reg → List I
 abbrev pub IsWritable : Seen → ℕ → ℕ → ℕ → Type 0
 IsWritable q fp a w = (bytes : ℕ → Option ℕ) → ((j : ℕ) → in_slots fp j ≡ false → bytes j ≡ q.bytes j) → mapped bytes a w ≡ true
 
--- none of so many bytes is one of a spill slot
+-- none of this many bytes is one of a spill slot
 abbrev pub IsOffSlots : ℕ → ℕ → ℕ → Type 0
 IsOffSlots fp a w = (j : ℕ) → j < w → in_slots fp (a + j) ≡ false
 
@@ -82,7 +82,7 @@ HasStoreCode R code = (frame : ℕ) (t : StoreType) (at : Address) (b : Reg) →
 abbrev pub store_of : {I : Type 0} → StoreCode I → ℕ → StoreType → Addressing → Node → List I
 store_of code frame t at n = code frame t (address_of at (operand_at n 0) (operand_at n 1)) (named (operand_at n (stored_operand at)))
 
--- a store that names no label is carried by it, whatever is live behind it
+-- a store that names no label is carried by it, whatever is live after it
 abbrev pub StoresCarry : {Q I : Type 0} → Rows Q I → (I → Type 0) → StoreCode I → Type 0
 StoresCarry R fits code =
     (c : Code) (i : ℕ) (n : Node) (t : StoreType) (at : Addressing) (frame : ℕ) (S : ℕ → Bool) → n.op ≡ op.Store t at → names_label n ≡ false → HasWords n

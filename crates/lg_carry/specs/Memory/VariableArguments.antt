@@ -53,7 +53,7 @@ HasNextArgumentCode R code = (d s : Reg) → 0 < length (spellings R.spelling (c
 abbrev pub next_argument_of : {I : Type 0} → NextArgumentCode I → Node → List I
 next_argument_of code n = code (named (operand_at n 0)) (named (operand_at n 1))
 
--- such a node is carried by it, whatever is live behind it
+-- such a node is carried by it, whatever is live after it
 abbrev pub NextArgumentsCarry : {Q I : Type 0} → Rows Q I → (I → Type 0) → NextArgumentCode I → Type 0
 NextArgumentsCarry R fits code =
     (c : Code) (i : ℕ) (n : Node) (frame : ℕ) (S : ℕ → Bool) → n.op ≡ op.Plain plain.VaArg → IsInText c i n → IsFrameOf c i frame

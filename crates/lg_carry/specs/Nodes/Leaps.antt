@@ -1,4 +1,4 @@
--- Branches and calls: what a target's code of them does, wherever it stands, and that nodes with this code are carried.
+-- Branches and calls: what a target's code of them does, wherever it is, and that nodes with this code are carried.
 use Rattle.std.specs.Prelude.{◌≡◌, ◌≢◌, ℕ, ◌+◌, ◌%◌, ◌^◌, ◌<◌, ◌≤◌, Bool, true, false, List, [], ◌∷◌, ◌++◌, slice_index, Option, Some, if◌then◌else◌, ⊤}
 use Rattle.lg_base.specs.Conventions.{result_register, stack_register, link_register, is_kept}
 use Rattle.lg_base.specs.HostNames.{host_address, host_by_address}
@@ -37,7 +37,7 @@ use Rattle.lg_carry.specs.TextNodes as text_nodes
 use Rattle.lg_carry.specs.Nodes.Stretches.{HasFrame, StandsAt, behind, Way, Arrival}
 
 -- ---- places
--- an instruction may stand at each multiple of a unit, and the nodes to which the code may jump stand at such
+-- an instruction may be at each multiple of a unit, and the nodes to which the code may jump are at such
 pub record HasPlaces {Q I : Type 0} (R : Rows Q I) (c : Code) : Type 0 where
   pub unit : ℕ
   pub units : (pc : ℕ) → pc % unit ≡ 0 → R.is_place pc ≡ true
@@ -55,7 +55,7 @@ abbrev pub second_word : Target → (ℕ → ℕ) → Operand → Option ℕ
 second_word target w (operand.Reg b) = Some (w (register_of target b))
 second_word target w x = immediate x
 
--- the code of a branch that stands at an address leads to another one where the condition holds, and else goes on behind itself
+-- the code of a branch that is at an address leads to another one where the condition holds, and else continues after itself
 abbrev pub BranchesLead : {Q I : Type 0} → Rows Q I → (ℕ → Bool) → (I → Type 0) → (ℕ → Condition → Reg → Operand → ℕ → ℕ → List I) → Type 0
 BranchesLead {Q} {I} R scratch fits code =
     (frame : ℕ) (o : Condition) (a : Reg) (b : Operand) (x y from to : ℕ) (q : Q) → HasFrame R.processor.target frame (R.processor.seen q)
@@ -73,7 +73,7 @@ last_of x = last_operand.Immediate
 abbrev pub branch_node : Condition → Label → Reg → Operand → ℕ → Node
 branch_node c l a x line = record { op = op.Branch c (last_of x); operands = operand.Label l ∷ operand.Reg a ∷ x ∷ []; line = line }
 
--- a register, or a word that stands for itself
+-- a register, or a word that denotes itself
 abbrev pub IsSecond : Operand → Type 0
 IsSecond (operand.Reg b) = ⊤
 IsSecond x = (v : ℕ) × (immediate x ≡ Some v) × (v < 2 ^ 64)
@@ -94,7 +94,7 @@ CallsLead {Q} {I} R fits code =
     → Arrival R.processor from (behind R from (code from to))
     ((R.processor.seen q).registers (stack_register R.processor.target)) (behind R from (code from to)) to q
 
--- at the entry of a host function besides the registers are as the convention asks: ready tells of those
+-- at the entry of a host function besides the registers are as the convention asks: ready says of those
 pub record HostArrival {Q : Type 0} (P : Processor Q) (ready : HostName → (ℕ → ℕ) → Bool) (low high stack back : ℕ) (name : HostName) (q : Q) : Type 0 where
   pub arrival : Arrival P low high stack back (host_address name) q
   pub ready_is : ready name (P.seen arrival.end).registers ≡ true
@@ -164,8 +164,7 @@ host_answer P name stack q =
     host_of name (argument_words P.target (P.seen q).registers (P.seen q).bytes stack) true
     (memory (P.seen q).bytes (readable (P.seen q).bytes) (P.seen q).mark)
 
--- behind an answer control is at the return address, the stack pointer is that of the call, registers that a call keeps stay, and memory changes by
--- the answer
+-- after an answer control is at the return address, the stack pointer is that of the call, registers that a call keeps stay, and memory changes by the answer
 pub record Answers {Q : Type 0} (P : Processor Q) (stack back v : ℕ) (d : ℕ → Option ℕ) (to : ℕ) (bytes : List ℕ) (q u : Q) : Type 0 where
   pub runs : code_base ≤ back → P.machine.status u ≡ Running
   pub out : P.machine.out u ≡ P.machine.out q ++ bytes

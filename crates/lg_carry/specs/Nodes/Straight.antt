@@ -45,7 +45,7 @@ is_taken (Spill r k ∷ choices) x = (r == x) || is_taken choices x
 abbrev pub spoils : (ℕ → Bool) → List Choice → ℕ → Bool
 spoils scratch choices x = is_taken choices x || scratch x
 
--- ---- the registers before the code and behind it
+-- ---- the registers before the code and after it
 -- words, among them those of the state that the node reads, FP and the stack pointer, the carry, the result of a call, and the portable memory, which lies
 -- off the spill slots and below the end of the stack
 pub record HoldsRead (target : Target) (n : Node) (frame : ℕ) (s : State) (q : Seen) : Type 0 where
@@ -59,7 +59,7 @@ pub record HoldsRead (target : Target) (n : Node) (frame : ℕ) (s : State) (q :
   pub below : (a b : ℕ) → s.mem a ≡ Some b → a < stack_end
   pub above : (a b : ℕ) → s.mem a ≡ Some b → is_below target (stack_of target q) a ≡ false
 
--- the words that the step from s to t writes, and the carry behind it; the step changes no other register
+-- the words that the step from s to t writes, and the carry after it; the step changes no other register
 pub record HoldsWritten (target : Target) (n : Node) (s t : State) (u : ℕ → ℕ) (flag : Flags) : Type 0 where
   pub written : (r x : ℕ) → r < 6 → numbered (is_written n) r ≡ true → t.regs r ≡ Some x → u (portable_register target r) ≡ x
   pub others : (r : ℕ) → r < 6 → numbered (is_written n) r ≡ false → t.regs r ≡ s.regs r

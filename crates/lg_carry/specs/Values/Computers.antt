@@ -34,7 +34,7 @@ pub record Computer (Q I : Type 0) : Type 0 where
 abbrev pub held : {Q I : Type 0} → Computer Q I → Q → Held
 held M q = record { registers = (M.rows.processor.seen q).registers; flags = (M.rows.processor.seen q).flags }
 
--- the run goes on behind the instruction; it made this of what was held, and nothing else changed
+-- the run continues after the instruction; it made this of what was held, and nothing else changed
 pub record Computes {Q I : Type 0} (M : Computer Q I) (i : I) (q q' : Q) : Type 0 where
   pub above : IsAbove M.rows i q
   pub runs : M.rows.processor.machine.status q' ≡ Running

@@ -12,7 +12,7 @@ use Rattle.lg_temp.specs.Chosen.{taken_by}
 abbrev pub operand_in : List Operand → ℕ → Operand
 operand_in xs i = slice_index_or xs i (Number 0)
 
--- the register that stands for an operand that is one
+-- the register that corresponds to an operand that is one
 abbrev pub register_for : Target → Operand → ℕ
 register_for target (Reg r) = register_of target r
 register_for target x = 0

@@ -26,7 +26,7 @@ use Rattle.lg_carry.specs.Values.Computers.{Held, Computer, all_compute, compute
 use Rattle.lg_carry.specs.Values.ValueNodes.{binary_node, wide_node, unary_node, movi_node, va_start_node, retval_node}
 
 -- ---- the code
--- a register that stands for none of these portable ones
+-- a register that corresponds to none of these portable ones
 abbrev pub StandsForNone : Target → List Reg → ℕ → Type 0
 StandsForNone target [] x = ⊤
 StandsForNone target (d ∷ ds) x = (x ≢ register_of target d) × StandsForNone target ds x
@@ -37,13 +37,13 @@ pub record ComputesInto {Q I : Type 0} (M : Computer Q I) (scratch : ℕ → Boo
   pub keeps : (w : Held) (x : ℕ) → StandsForNone M.rows.processor.target results x → is_taken choices x ≡ false → scratch x ≡ false
       → carry_register M.rows.processor.target ≢ Some x → (computed M.computed_by body w).registers x ≡ w.registers x
 
--- the carry is behind it what it was before
+-- the carry is after it what it was before
 abbrev pub KeepsCarry : {Q I : Type 0} → Computer Q I → List I → Type 0
 KeepsCarry M body =
     (w : Held) (k : Carry) → HoldsCarry M.rows.processor.target w.registers (carry_of w.flags) k
     → HoldsCarry M.rows.processor.target (computed M.computed_by body w).registers (carry_of (computed M.computed_by body w).flags) k
 
--- what is held behind the code of an operation that sets the carry, for the bit that it takes
+-- what is held after the code of an operation that sets the carry, for the bit that it takes
 pub record HoldsWithCarry (target : Target) (o : BinaryOp) (d x y c : ℕ) (u : Held) : Type 0 where
   pub value : u.registers d ≡ value_with_carry o x y c
   pub carry : HoldsCarry target u.registers (carry_of u.flags) (carry_made o x y c)

@@ -10,7 +10,7 @@ use crate::nodes::laws::Isa;
 
 /// A target that loads.
 pub trait Loads: Isa {
-    /// The code of a load from an address into a register, in a frame of so many bytes.
+    /// The code of a load from an address into a register, in a frame of this many bytes.
     ghost load: { LoadCode Self.Instruction };
 
     /// It leaves what is read in the register, and changes no other but scratch registers.
@@ -32,7 +32,7 @@ pub fn loads_with_temporaries_are_carried<T: Isa>()
 
 /// A target that stores.
 pub trait Stores: Isa {
-    /// The code of a store of a register to an address, in a frame of so many bytes.
+    /// The code of a store of a register to an address, in a frame of this many bytes.
     ghost store: { StoreCode Self.Instruction };
 
     /// It stores the register, and changes no register but scratch registers.
@@ -54,7 +54,7 @@ pub fn stores_with_temporaries_are_carried<T: Isa>()
 
 /// A target that reads arguments of its functions.
 pub trait Arguments: Isa {
-    /// The code that reads an argument into a register, in a frame of so many bytes.
+    /// The code that reads an argument into a register, in a frame of this many bytes.
     ghost argument: { ArgumentCode Self.Instruction };
 
     /// It leaves the argument's low bytes in the register, and changes no other but scratch registers.
@@ -88,7 +88,7 @@ pub fn next_arguments_are_carried<T: NextArguments>()
 
 /// A target that passes arguments.
 pub trait Pushes: Isa {
-    /// The code that passes an operand as an argument of a call, in a frame of so many bytes.
+    /// The code that passes an operand as an argument of a call, in a frame of this many bytes.
     ghost push: { PushCode Self.Instruction };
 
     /// It puts the operand's word where the argument goes, and changes no register besides but scratch registers.

@@ -6,7 +6,7 @@ ghost use Rattle.lg_carry.specs.Memory.Operands.{named, number};
 
 use lg_op::{Node, Operand, Reg};
 
-/// An operand of a node, by its place from 0, and the number 0 where there is none.
+/// Returns an operand of a node, by its place from 0, and the number 0 where there is none.
 pub fn operand(node: &Node, index: usize) -> Operand
     ensures { result ≡ operand_at node.now index }
 {
@@ -16,7 +16,7 @@ pub fn operand(node: &Node, index: usize) -> Operand
     }
 }
 
-/// The register that an operand names, and FP where it names none.
+/// Returns the register that an operand names, and FP where it names none.
 pub fn named(operand: Operand) -> Reg
     ensures { result ≡ named operand }
 {
@@ -26,7 +26,7 @@ pub fn named(operand: Operand) -> Reg
     }
 }
 
-/// The number that an operand gives, of 64 bits: itself, or the address of a host function; and 0 where it gives none.
+/// Returns the number that an operand gives, of 64 bits: itself, or the address of a host function; and 0 where it gives none.
 pub fn number(operand: Operand) -> u64
     ensures { result ≡ number operand }
 {
@@ -37,7 +37,7 @@ pub fn number(operand: Operand) -> u64
     }
 }
 
-/// The argument of its function that a node names, by its number from 0, and 0 where the operand names none.
+/// Returns the argument of its function that a node names, by its number from 0, and 0 where the operand names none.
 pub fn slot(operand: Operand) -> u32
     ensures { result ≡ slot operand }
 {

@@ -23,7 +23,7 @@ pub trait Isa {
     /// The processor, its code, and what is known of its instructions.
     ghost rows: { Rows Self.State Self.Instruction };
 
-    /// The registers that hold nothing that is needed behind a `prolog`.
+    /// The registers that hold nothing that is needed after a `prolog`.
     ghost scratch: { ℕ → Bool };
 
     /// Whether an instruction is one of the processor.
@@ -46,10 +46,10 @@ pub fn plain_nodes_are_carried<T: Isa>()
 
 /// A target that branches.
 pub trait Branches: Isa {
-    /// The code of a branch on a register and a second operand, in a frame of so many bytes, which stands at an address and leads to another one.
+    /// The code of a branch on a register and a second operand, in a frame of this many bytes, which is at an address and leads to another one.
     ghost branch: { ℕ → Condition → Reg → Operand → ℕ → ℕ → List Self.Instruction };
 
-    /// It leads there where the condition holds, and else behind itself.
+    /// It leads there where the condition holds, and else after itself.
     ghost branches_lead: { BranchesLead Self.rows Self.scratch Self.fits branch };
 }
 
@@ -60,10 +60,10 @@ pub fn branches_are_carried<T: Branches>()
 
 /// A target that calls functions, of the text and of the host.
 pub trait Calls: Isa {
-    /// The code of a call, which stands at an address, of a function at another one.
+    /// The code of a call, which is at an address, of a function at another one.
     ghost call: { ℕ → ℕ → List Self.Instruction };
 
-    /// It arrives there, with the address behind itself in the link or in the word below the stack pointer.
+    /// It arrives there, with the address after itself in the link or in the word below the stack pointer.
     ghost calls_lead: { CallsLead Self.rows Self.fits call };
 
     /// Whether registers are as a host function asks for them, besides the arguments.

@@ -5,7 +5,7 @@ ghost use Rattle.lg_carry.specs.Values.ValueNodes.{extension};
 
 use lg_op::{UnaryOp, ValueType};
 
-/// The operation that extends the low bytes of a word as a type does; of a whole word it is the move.
+/// Returns the operation that extends the low bytes of a word as a type does; of a whole word it is the move.
 pub fn extension(value: ValueType) -> UnaryOp
     ensures { result ≡ extension value }
 {

@@ -5,7 +5,7 @@ ghost use Rattle.lg_carry.specs.Values.Parts.{operand_in};
 
 use lg_op::Operand;
 
-/// An operand by its place, and the number 0 where there is none.
+/// Returns an operand by its place, and the number 0 where there is none.
 pub fn operand_in(operands: &[Operand], index: usize) -> Operand
     ensures { result ≡ operand_in operands.now index }
 {

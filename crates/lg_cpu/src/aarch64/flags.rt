@@ -10,7 +10,7 @@ use lg_a64::Cond;
 use lg_base::Flags;
 use lg_base::word::SIGN_BIT;
 
-// The highest bit.
+// Returns the highest bit.
 fn is_negative(a: u64) -> bool
     ensures { result ≡ is_negative a }
 {
@@ -97,7 +97,7 @@ pub fn difference_of(a: u64, b: u64, borrow: u64) -> u64
     a.wrapping_sub(b).wrapping_sub(borrow)
 }
 
-/// Whether a sum of two words and a carry of 0 or 1 does not fit a word.
+/// Returns whether a sum of two words and a carry of 0 or 1 does not fit a word.
 #[inline(always)]
 pub fn carry_out(a: u64, b: u64, carry: u64) -> bool
     requires { carry ≤ 1 }
@@ -106,7 +106,7 @@ pub fn carry_out(a: u64, b: u64, carry: u64) -> bool
     u128::from(a) + u128::from(b) + u128::from(carry) >= 0x1_0000_0000_0000_0000
 }
 
-/// Whether a difference of two words and a borrow of 0 or 1 is below 0.
+/// Returns whether a difference of two words and a borrow of 0 or 1 is below 0.
 #[inline(always)]
 pub fn borrow_out(a: u64, b: u64, borrow: u64) -> bool
     requires { borrow ≤ 1 }
@@ -115,7 +115,7 @@ pub fn borrow_out(a: u64, b: u64, borrow: u64) -> bool
     u128::from(a) < u128::from(b) + u128::from(borrow)
 }
 
-/// The flags after a sum with a carry of 0 or 1.
+/// Returns the flags after a sum with a carry of 0 or 1.
 #[inline(always)]
 pub fn sum_flags(a: u64, b: u64, carry: u64) -> Flags
     requires { carry ≤ 1 }
@@ -127,7 +127,7 @@ pub fn sum_flags(a: u64, b: u64, carry: u64) -> Flags
     result_flags(sum, out, leaves)
 }
 
-/// The flags after a difference with a borrow of 0 or 1.
+/// Returns the flags after a difference with a borrow of 0 or 1.
 #[inline(always)]
 pub fn difference_flags(a: u64, b: u64, borrow: u64) -> Flags
     requires { borrow ≤ 1 }
@@ -139,7 +139,7 @@ pub fn difference_flags(a: u64, b: u64, borrow: u64) -> Flags
     result_flags(difference, !out, leaves)
 }
 
-/// Whether a condition holds.
+/// Returns whether a condition holds.
 #[inline(always)]
 pub fn condition_holds(cond: Cond, flags: Flags) -> bool
     ensures { result ≡ condition_holds cond flags }

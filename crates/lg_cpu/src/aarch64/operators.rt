@@ -23,7 +23,7 @@ fn divided_signed(a: u64, b: u64) -> u64
     if b == 0 { 0 } else { divide_signed(a, b) }
 }
 
-/// What a row with three registers that is plain makes of the words in two of them, whatever the flags are.
+/// Returns what a row with three registers that is plain makes of the words in two of them, whatever the flags are.
 #[inline(always)]
 pub fn plain_value(op: RegOp, a: u64, b: u64) -> u64
     requires { is_plain op ≡ true }
@@ -42,7 +42,7 @@ pub fn plain_value(op: RegOp, a: u64, b: u64) -> u64
     }
 }
 
-/// The number `imm` of 12 bits, or 4,096 times it where it is shifted.
+/// Returns the number `imm` of 12 bits, or 4,096 times it where it is shifted.
 #[inline(always)]
 pub fn imm_number(imm: u16, shifted: bool) -> u64
     ensures { result ≡ imm_number imm shifted }
@@ -54,7 +54,7 @@ pub fn imm_number(imm: u16, shifted: bool) -> u64
     }
 }
 
-// The lowest bit of a quarter.
+// Returns the lowest bit of a quarter.
 fn quarter(hw: u8) -> u64
     ensures { result ≡ quarter hw }
 {
@@ -94,7 +94,7 @@ fn replaced(old: u64, imm: u64, hw: u8) -> u64
     }
 }
 
-/// What a row with a number `imm` of 16 bits makes of the word `old` in rd: `imm` in quarter `hw`, 0 to 3 from the lowest, with zeros beside it
+/// Returns what a row with a number `imm` of 16 bits makes of the word `old` in rd: `imm` in quarter `hw`, 0 to 3 from the lowest, with zeros beside it
 /// (MOVZ), that with each bit turned (MOVN), or with the other quarters of `old` (MOVK).
 pub fn wide_value(op: WideOp, old: u64, imm: u64, hw: u8) -> u64
     requires { imm < 2 ^ 16 }
@@ -124,14 +124,14 @@ pub fn csinc_value(chosen: bool, a: u64, b: u64) -> u64
     if chosen { a } else { b.wrapping_add(1) }
 }
 
-// The bytes of each half in reverse order.
+// Returns the bytes of each half in reverse order.
 fn reversed_halves(a: u64) -> u64
     ensures { result ≡ reverse_value ReverseOp.Rev32 a }
 {
     swap_bytes(a, 4) + swap_bytes(a / 0x1_0000_0000, 4) * 0x1_0000_0000
 }
 
-// The bytes of each quarter in reverse order.
+// Returns the bytes of each quarter in reverse order.
 fn reversed_quarters(a: u64) -> u64
     ensures { result ≡ reverse_value ReverseOp.Rev16 a }
 {
@@ -141,7 +141,7 @@ fn reversed_quarters(a: u64) -> u64
         + swap_bytes(a / 0x1_0000_0000_0000, 2) * 0x1_0000_0000_0000
 }
 
-/// The bytes of a word in reverse order: all 8 (REV), the 4 of each half (REV32), or the 2 of each quarter (REV16).
+/// Returns the bytes of a word in reverse order: all 8 (REV), the 4 of each half (REV32), or the 2 of each quarter (REV16).
 pub fn reverse_value(op: ReverseOp, a: u64) -> u64
     ensures { result ≡ reverse_value op a }
 {

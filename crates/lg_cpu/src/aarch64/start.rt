@@ -11,12 +11,12 @@ use lg_a64::Instr;
 use lg_base::Flags;
 use lg_base::layout::CODE_BASE;
 
-// the first address of the argument part, and the address behind the stack
+// the first address of the argument part, and the address after the stack
 const ARGS: u64 = 0x2800_0000;
 
 const STACK_END: u64 = 0x4000_0000;
 
-// The low four bits of the trash word: N, Z, C and V.
+// Returns the low four bits of the trash word: N, Z, C and V.
 pub(crate) fn trash_flags(trash: u64) -> Flags
     ensures { result ≡ trash_flags trash }
 {
@@ -28,7 +28,7 @@ pub(crate) fn trash_flags(trash: u64) -> Flags
     }
 }
 
-// The registers at the start of a run with so many arguments.
+// Returns the registers at the start of a run with this many arguments.
 fn registers_at_start(count: u64, trash: u64) -> [u64; 32]
     ensures { slice_index result ≡ start_registers count trash }
 {
@@ -45,7 +45,7 @@ impl Aarch64 {
     ghost use Rattle.lg_cpu.specs.A64Step.{begins};
     ghost use Rattle.lg_cpu.specs.Machines.{begun, a64_state, a64_inner};
 
-    /// The processor before its first step, with the number of arguments.
+    /// Returns the processor before its first step, with the number of arguments.
     pub fn new(code: DecodeCache<Instr>, board: Board, count: u64) -> Aarch64
         ensures state { a64_state result ≡ begins count board.trash (byte_at board.memory) board.heap }
         ensures code { result.code ≡ code }
@@ -60,7 +60,7 @@ impl Aarch64 {
         }
     }
 
-    /// Stands before the first step again, with the number of arguments, over the memory that it has.
+    /// Is before the first step again, with the number of arguments, over the memory that it has.
     pub fn begin(&mut self, count: u64)
         ensures { a64_inner self.new ≡ begun (a64_inner self.old) count }
     {

@@ -12,7 +12,7 @@ use lg_base::{FaultKind, HostName};
 use lg_host::{HostEnd, call};
 use lg_io::Sink;
 
-// Whether a call keeps a register.
+// Returns whether a call keeps a register.
 fn keeps(register: usize) -> bool
     ensures { result ≡ is_kept Target.Riscv64 register }
 {
@@ -22,7 +22,7 @@ fn keeps(register: usize) -> bool
     }
 }
 
-// The registers behind a call of a host function that answered this.
+// Returns the registers after a call of a host function that answered this.
 fn registers_behind_call(registers: &[u64; 32], trash: u64, answer: u64) -> [u64; 32]
     ensures { slice_index result ≡ behind_call Target.Riscv64 32 (slice_index registers.now) trash answer }
 {
@@ -36,7 +36,7 @@ fn registers_behind_call(registers: &[u64; 32], trash: u64, answer: u64) -> [u64
     behind
 }
 
-// The arguments in registers.
+// Returns the arguments in registers.
 fn register_arguments(registers: &[u64; 32]) -> Arguments
     ensures { result ≡ map (slice_index registers.now) (argument_registers Target.Riscv64) }
 {
@@ -57,7 +57,7 @@ impl Riscv64 {
     ghost use Rattle.lg_cpu.specs.Fetches.{in_code};
     ghost use Rattle.lg_cpu.specs.Machines.{rv_state, rv_inner, effect_in, Does, StepSays};
 
-    // The arguments of the convention.
+    // Returns the arguments of the convention.
     fn arguments(&self) -> Arguments
         ensures { result ≡ arguments_of Target.Riscv64 (slice_index self.now.registers 2) (rv_state self.now) }
     {
@@ -101,8 +101,8 @@ impl Riscv64 {
         }
     }
 
-    // Takes a step where no code stands: runs the host function whose entry stands there, or faults. Apart from the steps over code, which
-    // are short without it.
+    // Takes a step where there is no code: runs the host function whose entry is there, or faults. Apart from the steps over code, which are short without
+    // it.
     #[inline(never)]
     fn step_outside<O: Sink>(&mut self, out: &mut O) -> CpuStep
         requires { in_code self.old.code self.old.pc ≡ false }
@@ -117,8 +117,8 @@ impl Riscv64 {
         }
     }
 
-    // Takes a step where no instruction is read: faults, or runs a host function. What it comes to goes through a reference: a result would meet that
-    // of an instruction, and the compiler would test both again after each step.
+    // Takes a step where no instruction is read: faults, or runs a host function. Its outcome goes through a reference: a result would meet that of an
+    // instruction, and the compiler would test both again after each step.
     #[inline(never)]
     fn step_elsewhere<O: Sink>(&mut self, out: &mut O, answer: &mut CpuStep)
         requires { in_code self.old.code self.old.pc ≡ true → (self.old.pc % 4 == 0) ≡ true

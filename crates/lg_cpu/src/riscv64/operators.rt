@@ -10,7 +10,7 @@ use lg_base::word::{
 };
 use lg_rv::{BranchOp, RegOp, ShiftOp};
 
-// The low 32 bits.
+// Returns the low 32 bits.
 fn low_32(a: u64) -> u64
     ensures { result ≡ zero_32 a }
 {
@@ -45,7 +45,7 @@ fn left_over_signed(a: u64, b: u64) -> u64
     if b == 0 { a } else { remain_signed(a, b) }
 }
 
-/// What a row with two source registers makes of the words in them.
+/// Returns what a row with two source registers makes of the words in them.
 #[inline(always)]
 pub fn reg_value(op: RegOp, a: u64, b: u64) -> u64
     ensures { result ≡ reg_value op a b }
@@ -82,7 +82,7 @@ pub fn reg_value(op: RegOp, a: u64, b: u64) -> u64
     }
 }
 
-/// What a shift by a number makes of a word.
+/// Returns what a shift by a number makes of a word.
 #[inline(always)]
 pub fn shift_value(op: ShiftOp, a: u64, amount: u8) -> u64
     ensures { result ≡ shift_value op a amount }
@@ -98,7 +98,7 @@ pub fn shift_value(op: ShiftOp, a: u64, amount: u8) -> u64
     }
 }
 
-/// Whether a branch is taken.
+/// Returns whether a branch is taken.
 #[inline(always)]
 pub fn is_taken(op: BranchOp, a: u64, b: u64) -> bool
     ensures { result ≡ is_taken op a b }

@@ -9,12 +9,12 @@ use crate::riscv64::Riscv64;
 use lg_base::layout::CODE_BASE;
 use lg_rv::Instr;
 
-// the first address of the argument part, and the address behind the stack
+// the first address of the argument part, and the address after the stack
 const ARGS: u64 = 0x2800_0000;
 
 const STACK_END: u64 = 0x4000_0000;
 
-// The registers at the start of a run with so many arguments.
+// Returns the registers at the start of a run with this many arguments.
 fn registers_at_start(count: u64, trash: u64) -> [u64; 32]
     ensures { slice_index result ≡ start_registers count trash }
 {
@@ -31,7 +31,7 @@ impl Riscv64 {
     ghost use Rattle.lg_cpu.specs.RvStep.{begins};
     ghost use Rattle.lg_cpu.specs.Machines.{begun, rv_state, rv_inner};
 
-    /// The processor before its first step, with the number of arguments.
+    /// Returns the processor before its first step, with the number of arguments.
     pub fn new(code: DecodeCache<Instr>, board: Board, count: u64) -> Riscv64
         ensures state { rv_state result ≡ begins count board.trash (byte_at board.memory) board.heap }
         ensures code { result.code ≡ code }
@@ -45,7 +45,7 @@ impl Riscv64 {
         }
     }
 
-    /// Stands before the first step again, with the number of arguments, over the memory that it has.
+    /// Is before the first step again, with the number of arguments, over the memory that it has.
     pub fn begin(&mut self, count: u64)
         ensures { rv_inner self.new ≡ begun (rv_inner self.old) count }
     {

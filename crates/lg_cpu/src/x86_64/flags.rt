@@ -63,7 +63,7 @@ fn flags_of(carry: Option<bool>, overflow: Option<bool>, result_word: u64) -> Fl
     }
 }
 
-/// Whether a sum of two words and a carry does not fit a word.
+/// Returns whether a sum of two words and a carry does not fit a word.
 #[inline(always)]
 pub fn carry_out(a: u64, b: u64, carry: bool) -> bool
     ensures { result ≡ carry_out a b (bit carry) }
@@ -71,7 +71,7 @@ pub fn carry_out(a: u64, b: u64, carry: bool) -> bool
     a as u128 + b as u128 + u128::from(carry) >= 0x1_0000_0000_0000_0000
 }
 
-/// Whether a difference of two words and a borrow is below 0.
+/// Returns whether a difference of two words and a borrow is below 0.
 #[inline(always)]
 pub fn borrow_out(a: u64, b: u64, carry: bool) -> bool
     ensures { result ≡ borrow_out a b (bit carry) }
@@ -99,7 +99,7 @@ fn overflows_difference(a: u64, b: u64, difference: u64) -> bool
     }
 }
 
-/// The flags behind a sum with a carry.
+/// Returns the flags after a sum with a carry.
 #[inline(always)]
 pub fn sum_flags(a: u64, b: u64, carry: bool, sum: u64) -> Flags
     ensures { result ≡ sum_flags a b (bit carry) sum }
@@ -111,7 +111,7 @@ pub fn sum_flags(a: u64, b: u64, carry: bool, sum: u64) -> Flags
     )
 }
 
-/// The flags behind a difference with a borrow.
+/// Returns the flags after a difference with a borrow.
 #[inline(always)]
 pub fn difference_flags(a: u64, b: u64, carry: bool, difference: u64) -> Flags
     ensures { result ≡ difference_flags a b (bit carry) difference }
@@ -123,7 +123,7 @@ pub fn difference_flags(a: u64, b: u64, carry: bool, difference: u64) -> Flags
     )
 }
 
-/// The flags behind an operation on bits: neither carry nor overflow.
+/// Returns the flags after an operation on bits: neither carry nor overflow.
 #[inline(always)]
 pub fn bit_flags(bits: u64) -> Flags
     ensures { result ≡ bit_flags bits }
@@ -143,14 +143,14 @@ pub fn product_flags(needed: bool) -> Flags
     }
 }
 
-/// The flags behind a subtraction of a word from 0 (volume 2, NEG).
+/// Returns the flags after a subtraction of a word from 0 (volume 2, NEG).
 pub fn negation_flags(a: u64) -> Flags
     ensures { result ≡ negation_flags a }
 {
     flags_of(Some(a != 0), Some(a == SIGN_BIT), 0u64.wrapping_sub(a))
 }
 
-// The last bit that is shifted out.
+// Returns the last bit that is shifted out.
 fn last_out(op: ShiftOp, a: u64, count: u32) -> bool
     requires some { count ≢ 0 }
     requires few { count < 64 }
@@ -172,7 +172,7 @@ fn shift_overflow(op: ShiftOp, a: u64) -> bool
     }
 }
 
-/// The flags behind a shift by a count below 64: by 0 they stay, and OF is defined for a count of 1 alone (volume 2, SAL/SAR/SHL/SHR).
+/// Returns the flags after a shift by a count below 64: by 0 they stay, and OF is defined for a count of 1 alone (volume 2, SAL/SAR/SHL/SHR).
 pub fn shift_flags(op: ShiftOp, flags: Flags, a: u64, count: u32) -> Flags
     requires { count < 64 }
     ensures { result ≡ shift_flags op flags a count }

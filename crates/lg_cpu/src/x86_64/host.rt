@@ -15,7 +15,7 @@ use lg_base::{FaultKind, HostName};
 use lg_host::{HostEnd, call};
 use lg_io::Sink;
 
-// Whether a call keeps a register.
+// Returns whether a call keeps a register.
 fn keeps(register: usize) -> bool
     ensures { result ≡ is_kept Target.X86_64 register }
 {
@@ -25,7 +25,7 @@ fn keeps(register: usize) -> bool
     }
 }
 
-// The registers behind a call of a host function that answered this.
+// Returns the registers after a call of a host function that answered this.
 fn registers_behind_call(registers: &[u64; 16], trash: u64, answer: u64) -> [u64; 16]
     ensures registers { slice_index result ≡ behind_call Target.X86_64 16 (slice_index registers.now) trash answer }
     ensures long { length result ≡ 16 }
@@ -40,7 +40,7 @@ fn registers_behind_call(registers: &[u64; 16], trash: u64, answer: u64) -> [u64
     behind
 }
 
-// And behind the return, with this stack pointer.
+// And after the return, with this stack pointer.
 fn registers_behind_return(registers: &[u64; 16], trash: u64, answer: u64, stack: u64) -> [u64; 16]
     ensures { slice_index result ≡ put (behind_call Target.X86_64 16 (slice_index registers.now) trash answer) 4 stack }
 {
@@ -49,7 +49,7 @@ fn registers_behind_return(registers: &[u64; 16], trash: u64, answer: u64, stack
     behind
 }
 
-// The arguments in registers.
+// Returns the arguments in registers.
 fn register_arguments(registers: &[u64; 16]) -> Arguments
     ensures { result ≡ map (slice_index registers.now) (argument_registers Target.X86_64) }
 {
@@ -62,7 +62,7 @@ fn register_arguments(registers: &[u64; 16]) -> Arguments
     )
 }
 
-// Whether al is as a host function wants it.
+// Returns whether al is as a host function wants it.
 fn takes_al(name: HostName, a: u64) -> bool
     ensures { result ≡ takes_al name a }
 {
@@ -82,7 +82,7 @@ impl X86_64 {
     ghost use Rattle.lg_cpu.specs.X86Step.{popped, enter_with, enter_host};
     ghost use Rattle.lg_cpu.specs.Machines.{x86_state, x86_inner, effect_in, Does, StepSays};
 
-    // The arguments of the convention; those of the stack lie behind the return address.
+    // Returns the arguments of the convention; those of the stack lie after the return address.
     fn arguments(&self) -> Arguments
         ensures { result ≡ arguments_of Target.X86_64 (add_words (slice_index self.now.registers 4) 8) (x86_state self.now) }
     {
@@ -142,8 +142,8 @@ impl X86_64 {
         }
     }
 
-    // Takes a step where no code stands: runs the host function whose entry stands there, or faults. Apart from the steps over code, which
-    // are short without it.
+    // Takes a step where there is no code: runs the host function whose entry is there, or faults. Apart from the steps over code, which are short without
+    // it.
     #[inline(never)]
     fn step_outside<O: Sink>(&mut self, out: &mut O) -> CpuStep
         requires { in_code self.old.code self.old.pc ≡ false }
@@ -157,8 +157,8 @@ impl X86_64 {
         }
     }
 
-    // Takes a step where no instruction is read: faults, or runs a host function. What it comes to goes through a reference: a result would meet that
-    // of an instruction, and the compiler would test both again after each step.
+    // Takes a step where no instruction is read: faults, or runs a host function. Its outcome goes through a reference: a result would meet that of an
+    // instruction, and the compiler would test both again after each step.
     #[inline(never)]
     fn step_elsewhere<O: Sink>(&mut self, out: &mut O, answer: &mut CpuStep)
         requires { in_code self.old.code self.old.pc ≡ true → front_of (drop (self.old.pc - code_base) self.old.code) ≡ None }

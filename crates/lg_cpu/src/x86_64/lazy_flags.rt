@@ -110,7 +110,7 @@ impl LazyFlags {
         }
     }
 
-    /// Returns the carry, or None where it is undefined.
+    /// Returns the carry, or `None` if it is undefined.
     #[inline(always)]
     pub fn carry(&self) -> Option<bool>
         ensures { result ≡ carry_of self.now }
@@ -123,7 +123,7 @@ impl LazyFlags {
         }
     }
 
-    /// Returns whether a condition holds, or None where a flag that it names is undefined.
+    /// Returns whether a condition holds, or `None` if a flag that it names is undefined.
     #[inline(always)]
     pub fn holds(&self, cond: Cond) -> Option<bool>
         ensures { result ≡ condition_holds cond self.now }

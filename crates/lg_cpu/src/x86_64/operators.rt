@@ -8,7 +8,7 @@ use lg_base::wide::{mul_high, mul_high_u, sign_part, zero_part};
 use lg_base::word::{SIGN_BIT, shift_right_signed};
 use lg_x86::{ImmOp, RegRmOp, RmRegOp, ShiftOp};
 
-/// What a row makes of the words in its register and beside it, and of the carry.
+/// Returns what a row makes of the words in its register and beside it, and of the carry.
 pub fn alu_value(op: RmRegOp, a: u64, b: u64, carry: bool) -> u64
     ensures { result ≡ alu_value op a b (bit carry) }
 {
@@ -26,7 +26,7 @@ pub fn alu_value(op: RmRegOp, a: u64, b: u64, carry: bool) -> u64
     }
 }
 
-/// The row with a register that does what one with a number does.
+/// Returns the row with a register that does what one with a number does.
 pub fn alu_of(op: ImmOp) -> RmRegOp
     ensures { result ≡ alu_of op }
 {
@@ -42,35 +42,35 @@ pub fn alu_of(op: ImmOp) -> RmRegOp
     }
 }
 
-/// The word of all ones for a negative word, else 0.
+/// Returns the word of all ones for a negative word, else 0.
 pub fn sign_word(a: u64) -> u64
     ensures { result ≡ sign_word a }
 {
     if a >= SIGN_BIT { u64::MAX } else { 0 }
 }
 
-/// The high word of the signed product of two words (volume 2, IMUL).
+/// Returns the high word of the signed product of two words (volume 2, IMUL).
 pub fn high_signed(a: u64, b: u64) -> u64
     ensures { result ≡ high_product_signed a b }
 {
     mul_high(a.cast_signed(), b.cast_signed()).cast_unsigned()
 }
 
-/// Whether the unsigned product of two words does not fit one: CF and OF of MUL (volume 2, MUL).
+/// Returns whether the unsigned product of two words does not fit one: CF and OF of MUL (volume 2, MUL).
 pub fn needs_high(a: u64, b: u64) -> bool
     ensures { result ≡ needs_high a b }
 {
     mul_high_u(a, b) != 0
 }
 
-/// Whether the signed product of two words does not fit one: CF and OF of IMUL (volume 2, IMUL).
+/// Returns whether the signed product of two words does not fit one: CF and OF of IMUL (volume 2, IMUL).
 pub fn needs_high_signed(a: u64, b: u64) -> bool
     ensures { result ≡ needs_high_signed a b }
 {
     high_signed(a, b) != sign_word(a.wrapping_mul(b))
 }
 
-/// What a row makes of the words in `reg` and `rm`.
+/// Returns what a row makes of the words in `reg` and `rm`.
 pub fn reg_rm_value(op: RegRmOp, a: u64, b: u64) -> u64
     ensures { result ≡ reg_rm_value op a b }
 {
@@ -85,7 +85,7 @@ pub fn reg_rm_value(op: RegRmOp, a: u64, b: u64) -> u64
     }
 }
 
-/// What a shift by a count below 64 makes of a word.
+/// Returns what a shift by a count below 64 makes of a word.
 pub fn shift_value(op: ShiftOp, a: u64, count: u32) -> u64
     requires { count < 64 }
     ensures { result ≡ shift_value op a count }

@@ -16,7 +16,7 @@ const ARGS: u64 = 0x2800_0000;
 
 const RETURN: u64 = 0x3FFF_FFF8;
 
-// The trash word in each register.
+// Returns the trash word in each register.
 fn trash_registers(trash: u64) -> [u64; 16]
     ensures registers { slice_index result ≡ (λ r. if nat_lt r 16 then trash else 0) }
     ensures long { length result ≡ 16 }
@@ -24,7 +24,7 @@ fn trash_registers(trash: u64) -> [u64; 16]
     [trash; 16]
 }
 
-// The registers at the start of a run with so many arguments.
+// Returns the registers at the start of a run with this many arguments.
 fn registers_at_start(count: u64, trash: u64) -> [u64; 16]
     ensures { slice_index result ≡ start_registers count trash }
 {
@@ -44,7 +44,7 @@ impl X86_64 {
     ghost use Rattle.lg_cpu.specs.Machines.{inner_of, begun, x86_inner};
     ghost use Rattle.lg_base.specs.declared.target.Target.{Target};
 
-    /// The processor before its first step, with the number of arguments; the stop address stands at the stack pointer.
+    /// Returns the processor before its first step, with the number of arguments; the stop address is at the stack pointer.
     pub fn new(code: DecodeCache<Instr>, board: Board, count: u64) -> X86_64
         requires stack { mapped (byte_at board.memory) (return_word stack_end) 8 ≡ true }
         ensures { x86_inner result ≡ inner_of Target.X86_64 (begins count board.trash (byte_at board.memory) board.heap) code board }
@@ -60,7 +60,7 @@ impl X86_64 {
         }
     }
 
-    /// Stands before the first step again, with the number of arguments, over the memory that it has; the stop address stands at
+    /// Is before the first step again, with the number of arguments, over the memory that it has; the stop address is at
     /// the stack pointer.
     pub fn begin(&mut self, count: u64)
         requires stack { mapped (byte_at self.old.board.memory) (return_word stack_end) 8 ≡ true }

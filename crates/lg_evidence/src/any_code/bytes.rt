@@ -16,7 +16,7 @@ pub fn any(random: &mut Random) -> [u8; MOST] {
     bytes
 }
 
-/// The bytes of some code with zeros behind it, of which one to four were changed.
+/// The bytes of some code with zeros after it, one to four bytes of which were changed.
 pub fn changed(random: &mut Random, code: &[u8]) -> [u8; MOST]
     requires { length code.now ≤ 64 }
 {

@@ -79,7 +79,7 @@ fn set_operands(cpu: &mut Cpu, random: &mut Random) {
     }
 }
 
-// Whether ten more calls answer the same, at the same place.
+// Returns whether ten more calls answer the same, at the same place.
 fn stays(cpu: &mut Cpu, out: &mut MemorySink, answer: CpuStep) -> bool {
     let (pc, steps) = (cpu.pc(), cpu.steps());
     for _ in 0..10 {
@@ -101,7 +101,7 @@ impl Outcome {
         }
     }
 
-    // Runs these bytes from their first on, and counts what they come to.
+    // Runs these bytes from their first on, and counts their outcomes.
     fn add(&mut self, alloc: Global, cpu: &mut Cpu, code: &[u8]) -> Result<(), OutOfMemory>
         requires { length code.now ≤ 64 }
     {
@@ -111,7 +111,7 @@ impl Outcome {
         Ok(())
     }
 
-    // Makes a run from the first byte of the code on, and counts what it comes to.
+    // Makes a run from the first byte of the code on, and counts its outcome.
     fn go(&mut self, cpu: &mut Cpu, out: &mut MemorySink) {
         cpu.set_pc(CODE);
         let before = cpu.steps();

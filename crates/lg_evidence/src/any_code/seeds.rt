@@ -1,5 +1,5 @@
-// Code that runs on each target, from which code with changed bytes is made: a loop over a word of the stack, and a call of putchar with
-// some arithmetic behind it.
+// Code that runs on each target, from which code with changed bytes is made: a loop over a word of the stack, and a call of putchar with some arithmetic
+// after it.
 
 ghost use Rattle.std.specs.Prelude.{◌≤◌, length};
 
@@ -49,7 +49,7 @@ const RISCV64_CALL: [u8; 44] = [
     0x03, 0x4e, 0xf1, 0xff, 0x93, 0x80, 0x04, 0x00, 0x67, 0x80, 0x00, 0x00,
 ];
 
-/// The code of a target, one of two.
+/// Returns the code of a target, one of two.
 pub fn seed(target: Target, is_call: bool) -> &'static [u8]
     ensures { length result.now ≤ 64 }
 {

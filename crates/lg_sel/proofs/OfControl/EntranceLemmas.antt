@@ -17,7 +17,7 @@ use Rattle.lg_sel.specs.Control.Prologs.{Entrance}
 use Rattle.lg_sel.specs.Control.Stores.{first_registers, home_registers}
 use Rattle.lg_sel.proofs.OfControl.StoreLemmas.{word_below, with_stored, stored-off, stored-word}
 
--- what such code leaves of the caller's stack pointer, with eight arguments in registers: the link, FP and so many of V0 to V2, and the homes
+-- what such code leaves of the caller's stack pointer, with eight arguments in registers: the link, FP and this many of V0 to V2, and the homes
 pub record IsEntered {Q : Type 0} (P : Processor Q) (link size homes kept sp : ℕ) (q u : Q) : Type 0 where
   pub bytes : (P.seen u).bytes ≡ with_stored (with_stored (P.seen q).bytes (P.seen q).registers sp (first_registers P.target link kept) 0)
       (P.seen q).registers sp (home_registers P.target homes) 5

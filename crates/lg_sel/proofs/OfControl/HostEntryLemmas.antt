@@ -65,7 +65,7 @@ entry-near host.Memset = omega arith
 entry-near host.Strlen = omega arith
 entry-near host.Strcmp = omega arith
 
--- ---- the registers behind a call
+-- ---- the registers after a call
 -- a call keeps the stack pointer, and not the register of the result
 stack-kept : (target : Target) → is_kept target (stack_register target) ≡ true
 stack-kept X86_64 = refl

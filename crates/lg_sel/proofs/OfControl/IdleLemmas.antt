@@ -1,4 +1,4 @@
--- Instructions that do nothing lead behind themselves.
+-- Instructions that do nothing lead to the place after themselves.
 use Rattle.std.proofs.Common.{◌≡◌, ℕ, zero, suc, ◌+◌, ◌*◌, ◌%◌, ◌≤◌, Bool, true, false, refl, ap, ◌∙◌, subst, arith, length}
 use Rattle.std.specs.List.{list_all}
 use Rattle.std.specs.Prelude.{◌&&◌}
@@ -24,7 +24,7 @@ module _ {I : Type 0} (x : I) where
   idle-straight is_straight h zero = refl
   idle-straight is_straight h (suc k) = ap (λ b. b && list_all is_straight (idle x k)) h ∙ idle-straight is_straight h k
 
--- ---- where one changes registers that are not of the conventions, and the flags, a run behind so many of them goes on
+-- ---- where one changes registers that are not of the conventions, and the flags, a run after this many of them goes on
 module _ {I : Type 0} (act : I → CpuState → Effect CpuState) (above : I → CpuState → Type 0) (x : I) (made : (ℕ → ℕ) → ℕ → ℕ) (left : Flags → Flags)
     (acts : (q : CpuState) → act x q ≡ arrives (add_words q.pc 4) (made q.registers) (left q.flags) q.bytes q.mark) (highs : (q : CpuState) → above x q) (spoilt : ℕ → Bool)
     (keeps : (w : ℕ → ℕ) (r : ℕ) → spoilt r ≡ false → made w r ≡ w r) where

@@ -77,7 +77,7 @@ host-found w name e = by host_names e
         one false h e rest = rest e
 
 -- ---- the functions of a text
--- a node stands in the function of another one, behind its `prolog`
+-- a node is in the function of another one, after its `prolog`
 record IsBehind (c : Code) (at k : ℕ) : Type 0 where
   function : Function
   here : function_here c.shape.functions at ≡ Some function
@@ -100,7 +100,7 @@ module _ (c : Code) (i : ℕ) (n : Node) (t : IsInText c i n) where
           let order : f.entry ≤ f.last = is.order in
           is.all k (omega (arith, at)) (omega (arith, at, order)) ∙ ap Some at
 
-  -- a taken label of the function of a node stands in it, behind its `prolog`
+  -- a taken label of the function of a node is in it, after its `prolog`
   target-behind : (at w k : ℕ) → jump_target T at w ≡ Some k → IsBehind c at k
   target-behind at w k h = by (function_here c.shape.functions at) refl
       (and_parts (slice_index_or c.shape.taken l.label false) (is_behind (function_here c.shape.functions at) k) l.passes).1

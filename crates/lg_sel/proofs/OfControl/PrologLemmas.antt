@@ -129,7 +129,7 @@ module _ {Q I : Type 0} (R : Rows Q I) (fits : I → Type 0) (saved : ℕ) (code
     homes = λ j x read lt e. subst (HasWord (R.processor.seen u).bytes _) (arrives.arguments.is j x lt e) (enters.homes j (omega (arith, read, reads)) lt);
   }
 
-  -- the next node stands in the same function
+  -- the next node is in the same function
   next-function : function_at c (s.at + 1) ≡ function_at c i
   next-function =
       let more = (t.well.falls i i entry (ap is_epilog_at t.here)).0 in

@@ -32,7 +32,7 @@ pub first-few : (target : Target) (link saved : ℕ) → length (first_registers
 first-few target link saved =
     let e = length-take saved (portable_register target 3 ∷ portable_register target 4 ∷ portable_register target 5 ∷ []) in omega (arith, e)
 
--- and no more than are wanted
+-- and no more than are asked for
 pub kept-most : (target : Target) (saved : ℕ) → length (kept_registers target saved) ≤ saved
 kept-most target saved =
     let e = length-take saved (portable_register target 3 ∷ portable_register target 4 ∷ portable_register target 5 ∷ []) in omega (arith, e)
@@ -72,7 +72,7 @@ module _ {I : Type 0} (store : ℕ → ℕ → I) where
   stores-taken [] (suc n) k = refl
   stores-taken (r ∷ rs) (suc n) k = ap (λ xs. store r k ∷ xs) (stores-taken rs n (suc k))
 
-  -- so many, where there are so many registers
+  -- this many, where there are that many registers
   pub first-stores : (rs : List ℕ) (n most k : ℕ) → length rs ≡ most → take (min n most) (stores_below store rs k) ≡ stores_below store (take n rs) k
   first-stores rs n most k long =
       stores-taken rs (min n most) k
@@ -147,7 +147,7 @@ stored-besides w to x sp (r ∷ rs) k m h =
     ap (λ v. with_stored (stored m (word_below sp k) 8 v) (put w to x) sp rs (suc k)) value
     ∙ stored-besides w to x sp rs (suc k) (stored m (word_below sp k) 8 (w r)) p.1
 
--- ---- the run behind instructions that store them, each of which leaves flags
+-- ---- the run after instructions that store them, each of which leaves flags
 abbrev pub store_one : (Flags → Flags) → ℕ → Run CpuState → ℕ → ℕ → Run CpuState
 store_one left sp q r k =
     after q (arrives (add_words q.state.pc 4) q.state.registers (left q.state.flags) (stored q.state.bytes (word_below sp k) 8 (q.state.registers r)) q.state.mark)
@@ -199,7 +199,7 @@ module _ {I : Type 0} (act : I → CpuState → Effect CpuState) (above : I → 
 module _ {L I : Type 0} (H : Holes L I) (one : I → L) (single : (i : I) → H.words (one i) ≡ 1) (store : ℕ → ℕ → I) (registers : List ℕ) (most k : ℕ)
     (long : length registers ≡ most) (homes m : ℕ) (count : m ≡ min homes most) (front back : List I) (old mid : List L)
     (back-is : back ≡ stores_below store registers k) (mid-is : mid ≡ old ++ ones one front) where
-  -- so many words are in front of those of the first registers, and they are so many
+  -- this many words are in front of those of the first registers, and they are this many
   pub stores-fit-in : words_in H mid + length (take m back) ≤ words_in H old + length front + most
   stores-fit-in =
       let both = ap (words_in H) mid-is ∙ words_append H old (ones one front) in

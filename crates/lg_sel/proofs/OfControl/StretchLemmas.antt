@@ -1,4 +1,4 @@
--- Instructions that stand in the code, and runs over them.
+-- Instructions that are in the code, and runs over them.
 use Rattle.std.proofs.Common.{◌≡◌, ◌≢◌, ℕ, ◌+◌, ◌%◌, ◌<◌, ◌≤◌, Bool, true, false, List, [], ◌∷◌, ◌++◌, Some, refl, sym, ap, ◌∙◌, subst, arith, length, append-nil, drop, ◌-◌}
 use Rattle.std.specs.Prelude.{◌==◌, slice_index}
 use Rattle.std.proofs.lemmas.Bool.{false_from_ne_true}
@@ -24,7 +24,7 @@ pub aligned : (pc : ℕ) → (pc % 4 == 0) ≡ true → pc % 4 ≡ 0
 aligned pc h = grind (arith, h)
 
 module _ {Q I : Type 0} (R : Rows Q I) (fits : I → Type 0) (ok : AreRows R fits) where
-  -- instructions that stand in the code lie in the code part
+  -- instructions that are in the code lie in the code part
   pub stands-high : (moves : Bool) (from : ℕ) (is : List I) → 0 < length (spellings R.spelling is) → StandsAt R moves fits from is → behind R from is ≤ code_base + most_code
   stands-high moves from is some k = in-room R.code (spellings R.spelling is) k.more from k.low some k.stands ok.small
 
@@ -44,7 +44,7 @@ module _ {Q I : Type 0} (R : Rows Q I) (fits : I → Type 0) (ok : AreRows R fit
       (subst (λ z. PassesIn R.processor moves from (behind R from (is ++ [])) (length is) q z) leads
       (part-passes R fits ok moves from [] is [] q (subst (StandsAt R moves fits from) (sym (append-nil is)) k) (at ∙ omega arith) block through))
 
-  -- where they stand in the code, their run is known
+  -- where they are in the code, their run is known
   run-of : (moves : Bool) (from : ℕ) (is : List I) (q : Q) → StandsAt R moves fits from is → (R.processor.seen q).pc ≡ from → IsBlock R.is_straight is
       → GoesThrough R.does R.processor.machine.status (IsAbove R) is q → RunsBlock R is q
   run-of moves from is q k at block through =

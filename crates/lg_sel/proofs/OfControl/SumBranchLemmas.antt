@@ -155,7 +155,7 @@ module _ {Q I : Type 0} (R : Rows Q I) (scratch : ℕ → Bool) (fits : I → Ty
     place-next : c.place (i + 1) ≡ high
     place-next = k.next
 
-    -- behind the node the register holds the sum, and the others what they held
+    -- after the node the register holds the sum, and the others what they held
     goes-to : (v j : ℕ) → is_inside c j ≡ true → function_at c j ≡ function_at c i → step c.nodes c.shape c.addresses s ≡ Goes (to (with_reg s (operand.Reg a) v) j) []
         → Way R.processor scratch (c.place i) high (with_register W ra v) (c.place j) q
         → Leads R.processor c live (live_behind live n S s) i (step c.nodes c.shape c.addresses s) out q

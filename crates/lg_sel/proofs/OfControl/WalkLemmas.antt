@@ -130,7 +130,7 @@ first-true : (b : Bool) → (b && true) ≡ true → b ≡ true
 first-true true e = refl
 first-true false e = e
 
--- the next node stands on the same side
+-- the next node is on the same side
 align-side : (c : Code) (i m line j : ℕ) → IsInText c i (align_node m line) → j ≡ i + 1 → j < length c.nodes.nodes → is_inside c j ≡ is_inside c i
 align-side c i m line j t e lt = by (home c.nodes.nodes i) refl
   where

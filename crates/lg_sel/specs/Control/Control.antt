@@ -32,8 +32,8 @@ use Rattle.lg_sel.specs.Control.Walks.{JumpsWalk, AlignmentsWalk}
 use Rattle.lg_carry.specs.Nodes.Operands.{AreWords}
 
 -- ---- the code
--- the code of each family: those with a frame take its size first, a `prolog` the number of homes that it stores behind it, and those that lead to an
--- address take their own and then that one
+-- the code of each family: those with a frame take its size first, a `prolog` the number of homes that it stores after it, and those that lead to an address
+-- take their own and then that one
 pub record Codes (I : Type 0) : Type 0 where
   pub branch : ℕ → Condition → Reg → Operand → ℕ → ℕ → List I
   pub sum_branch : ℕ → BranchSumOp → Reg → Operand → ℕ → ℕ → List I
@@ -100,7 +100,7 @@ plain_of C frame homes at plain.Ret xs = C.ret frame NoWord
 plain_of C frame homes at plain.Align xs = align_of C at xs
 plain_of C frame homes at o xs = []
 
--- of a node in a function with a frame of so many bytes and so many homes that are read, which stands at an address
+-- of a node in a function with a frame of this many bytes and this many homes that are read, which is at an address
 abbrev pub control_code : {I : Type 0} → Codes I → (ℕ → ℕ) → ℕ → ℕ → ℕ → Op → List Operand → List I
 control_code C to frame homes at (op.Branch o last) xs = branch_of C to frame at o xs
 control_code C to frame homes at (op.BranchSum o last) xs = sum_branch_of C to frame at o xs
@@ -126,7 +126,7 @@ abbrev pub ends_in_label : List Operand → Bool
 ends_in_label (x ∷ y ∷ operand.Label l ∷ xs) = true
 ends_in_label xs = false
 
--- what the code of each family does wherever it stands, where frames save so many of V0 to V2
+-- what the code of each family does wherever it is, where frames save this many of V0 to V2
 pub record Controls {Q I : Type 0} (R : Rows Q I) (scratch : ℕ → Bool) (fits : I → Type 0) (ready : HostName → (ℕ → ℕ) → Bool) (saved : ℕ) (C : Codes I)
     : Type 0 where
   pub isa : IsIsa R scratch fits

@@ -1,4 +1,4 @@
--- `prolog`: what a target's code of it does, wherever it stands, and that the node with this code is carried.
+-- `prolog`: what a target's code of it does, wherever it is, and that the node with this code is carried.
 use Rattle.std.specs.Prelude.{◌≡◌, ℕ, ◌+◌, ◌-◌, ◌%◌, ◌<◌, ◌≤◌, ◌⊎◌, Bool, List, [], length, slice_index, slice_get, Some, true}
 use Rattle.lg_base.specs.Conventions.{argument_registers, portable_register, frame_register, stack_register, link_register}
 use Rattle.lg_base.specs.Layout.{frame_pointer, return_word, saved_word, home_word, least_frame, stack_end}
@@ -21,8 +21,8 @@ use Rattle.lg_carry.specs.Rows.{Rows}
 use Rattle.lg_carry.specs.TextNodes.{IsInText}
 use Rattle.lg_carry.specs.Nodes.Stretches.{StandsAt, behind, PassesIn}
 
--- at most 64 steps from one address to another, in none of which the stack pointer rises, make a frame of so many bytes below that of the caller. Its words
--- hold the return address, the caller's FP and so many of V0 to V2, and of the arguments that have registers those with so many homes; FP and the stack
+-- at most 64 steps from one address to another, in none of which the stack pointer rises, make a frame of this many bytes below that of the caller. Its words
+-- hold the return address, the caller's FP and this many of V0 to V2, and of the arguments that have registers those with this many homes; FP and the stack
 -- pointer are those of the frame, and no other register of the conventions changes but the link and that of the carry, nor a byte outside of the words of a
 -- frame
 pub record Entrance {Q : Type 0} (P : Processor Q) (low high stack size homes_read kept : ℕ) (q : Q) : Type 0 where
@@ -49,7 +49,7 @@ pub record Entrance {Q : Type 0} (P : Processor Q) (low high stack size homes_re
   pub bytes : (a : ℕ) → (a + 144 < stack) ⊎ (stack ≤ a) → (P.seen end).bytes a ≡ (P.seen q).bytes a
   pub mark : (P.seen end).mark ≡ (P.seen q).mark
 
--- the code of a `prolog` that stands at an address makes the frame, with so many homes, and saves so many of V0 to V2, where a call has arrived and there is
+-- the code of a `prolog` that is at an address makes the frame, with this many homes, and saves this many of V0 to V2, where a call has arrived and there is
 -- room for it
 abbrev pub PrologsLead : {Q I : Type 0} → Rows Q I → (I → Type 0) → ℕ → (ℕ → ℕ → List I) → Type 0
 PrologsLead {Q} R fits saved code =
@@ -61,11 +61,11 @@ PrologsLead {Q} R fits saved code =
 abbrev pub prolog_node : ℕ → Node
 prolog_node line = record { op = op.Plain plain.Prolog; operands = []; line = line }
 
--- a `prolog` with so many homes stores those that the function which begins at the node reads, and may store more
+-- a `prolog` with this many homes stores those that the function which begins at the node reads, and may store more
 abbrev pub IsHomesOf : Code → ℕ → ℕ → Type 0
 IsHomesOf c i homes = is_prolog_at (slice_get c.nodes.nodes i) ≡ true → homes_at c i ≤ homes
 
--- the frame is that of the function that begins at the node, the homes are at least those that it reads, and so many are saved as its frames save
+-- the frame is that of the function that begins at the node, the homes are at least those that it reads, and this many are saved as its frames save
 abbrev pub PrologsCarry : {Q I : Type 0} → Rows Q I → (I → Type 0) → ℕ → (ℕ → ℕ → List I) → Type 0
 PrologsCarry R fits saved code =
     (c : Code) (i line homes : ℕ) (f : Function) (S : ℕ → Bool) → IsInText c i (prolog_node line) → function_here c.shape.functions i ≡ Some f → saved_at c i ≡ saved

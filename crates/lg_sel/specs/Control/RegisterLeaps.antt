@@ -1,4 +1,4 @@
--- `jmpr`, `callr` and `finishr`: what a target's code of them does, wherever it stands, and that nodes with this code are carried.
+-- `jmpr`, `callr` and `finishr`: what a target's code of them does, wherever it is, and that nodes with this code are carried.
 use Rattle.std.specs.Prelude.{◌≡◌, ℕ, Bool, List, [], ◌∷◌, false}
 use Rattle.lg_base.specs.Conventions.{stack_register}
 use Rattle.lg_base.specs.HostNames.{host_address}

@@ -1,4 +1,4 @@
--- Returns: what a target's code of them does, wherever it stands, and that nodes with this code are carried.
+-- Returns: what a target's code of them does, wherever it is, and that nodes with this code are carried.
 use Rattle.std.specs.Prelude.{◌≡◌, ℕ, ◌+◌, ◌^◌, ◌<◌, ◌≤◌, ◌⊎◌, List, [], ◌∷◌, slice_index, Bool, Option, Some, None, true}
 use Rattle.lg_carry.specs.Carries.{Rises}
 use Rattle.lg_base.specs.Conventions.{portable_register, frame_register, result_register, stack_register}
@@ -49,7 +49,7 @@ IsReturned (OfLabel address) = address < 2 ^ 30
 
 -- ---- what the code does
 -- at most 64 steps from one address to another, in none of which the stack pointer falls, leave a frame, whose caller's is this: the run goes on at the
--- return address, or has ended where that is the stop address. So many of V0 to V2 and FP get what the frame saved of them, and the result is in its
+-- return address, or has ended where that is the stop address. This many of V0 to V2 and FP get what the frame saved of them, and the result is in its
 -- register; memory stays
 pub record Departure {Q : Type 0} (P : Processor Q) (low high stack kept back : ℕ) (v : Option ℕ) (q : Q) : Type 0 where
   pub end : Q
@@ -73,7 +73,7 @@ pub record Departure {Q : Type 0} (P : Processor Q) (low high stack kept back : 
 abbrev pub IsBack : {Q I : Type 0} → Rows Q I → ℕ → Type 0
 IsBack R back = IsThere R.is_place back ⊎ (back ≡ stop_address)
 
--- the code of a return that stands at an address leaves the frame, which saves so many of V0 to V2
+-- the code of a return that is at an address leaves the frame, which saves this many of V0 to V2
 abbrev pub ReturnsLead : {Q I : Type 0} → Rows Q I → (I → Type 0) → ℕ → (ℕ → Returned → List I) → Type 0
 ReturnsLead {Q} R fits saved code =
     (frame from back : ℕ) (r : Returned) (q : Q) → IsReturned r → HasFrame R.processor.target frame (R.processor.seen q) → StandsAt R true fits from (code frame r)
@@ -96,7 +96,7 @@ retr_node a line = record { op = op.Control control.Ret last_operand.Register; o
 abbrev pub reti_node : Operand → ℕ → Node
 reti_node x line = record { op = op.Control control.Ret last_operand.Immediate; operands = x ∷ []; line = line }
 
--- a node that returns is carried by such code, where the code saves so many
+-- a node that returns is carried by such code, where the code saves this many
 abbrev pub IsReturnOf : {Q I : Type 0} → Rows Q I → (I → Type 0) → ℕ → (ℕ → Returned → List I) → Code → ℕ → Node → Returned → Type 0
 IsReturnOf R fits saved code c i n r =
     (frame : ℕ) (S : ℕ → Bool) → HasPlaces R c → IsInText c i n → IsFrameOf c i frame → saved_at c i ≡ saved → IsNodeCode R fits c i (code frame r)

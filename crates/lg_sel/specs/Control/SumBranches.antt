@@ -1,4 +1,4 @@
--- Branches that add or subtract: what a target's code of them does, wherever it stands, and that nodes with this code are carried.
+-- Branches that add or subtract: what a target's code of them does, wherever it is, and that nodes with this code are carried.
 use Rattle.std.specs.Prelude.{◌≡◌, ◌≢◌, ℕ, ◌^◌, ◌<◌, Bool, true, List, [], ◌∷◌, slice_index, Some, if◌then◌else◌, false}
 use Rattle.lg_base.specs.Runs.{Running}
 use Rattle.lg_op.specs.declared.op.BranchSumOp.{BranchSumOp}
@@ -20,8 +20,8 @@ use Rattle.lg_carry.specs.TextNodes.{IsInText, IsFrameOf}
 use Rattle.lg_carry.specs.Nodes.Leaps.{HasPlaces, IsThere, second_word, last_of, IsSecond}
 use Rattle.lg_carry.specs.Nodes.Stretches.{HasFrame, StandsAt, behind, Way}
 
--- the code of such a branch that stands at an address leaves the sum or difference in the register of its first operand, and leads to another address
--- where the operation asks for it, and else goes on behind itself
+-- the code of such a branch that is at an address leaves the sum or difference in the register of its first operand, and leads to another address where the
+-- operation asks for it, and else continues after itself
 abbrev pub SumBranchesLead : {Q I : Type 0} → Rows Q I → (ℕ → Bool) → (I → Type 0) → (ℕ → BranchSumOp → Reg → Operand → ℕ → ℕ → List I) → Type 0
 SumBranchesLead {Q} {I} R scratch fits code =
     (frame : ℕ) (o : BranchSumOp) (a : Reg) (b : Operand) (x y from to : ℕ) (q : Q) → HasFrame R.processor.target frame (R.processor.seen q)

@@ -39,7 +39,7 @@ pub record Walk {Q : Type 0} (P : Processor Q) (low high to : ℕ) (q : Q) : Typ
   pub mark : (P.seen end).mark ≡ (P.seen q).mark
 
 -- ---- `jmpi`
--- the code of a jump that stands at an address walks to another one
+-- the code of a jump that is at an address walks to another one
 abbrev pub JumpsWalk : {Q I : Type 0} → Rows Q I → (I → Type 0) → (ℕ → ℕ → List I) → Type 0
 JumpsWalk {Q} R fits code =
     (from to : ℕ) (q : Q) → StandsAt R false fits from (code from to) → IsThere R.is_place to → R.processor.machine.status q ≡ Running
@@ -55,7 +55,7 @@ JumpsCarry R fits code =
     → IsNodeCode R fits c i (code (c.place i) (slice_index c.addresses l.0)) → CarriesNode R.processor c i (jump_node l line) S
 
 -- ---- `.align`
--- the code that stands at an address before a multiple of a number walks behind itself
+-- the code that is at an address before a multiple of a number continues after itself
 abbrev pub AlignmentsWalk : {Q I : Type 0} → Rows Q I → (I → Type 0) → (ℕ → ℕ → List I) → Type 0
 AlignmentsWalk {Q} R fits code =
     (from n : ℕ) (q : Q) → is_alignment n ≡ true → StandsAt R false fits from (code from n) → IsThere R.is_place (behind R from (code from n))

@@ -24,7 +24,7 @@ pub fn silent_nodes_are_carried<T: Isa>()
 
 /// A target that jumps.
 pub trait Jumps: Isa {
-    /// The code of a jump, which stands at an address, to another one.
+    /// The code of a jump, which is at an address, to another one.
     ghost jump: { ℕ → ℕ → List Self.Instruction };
 
     /// It leads there, and changes nothing.
@@ -41,7 +41,7 @@ pub trait Alignments: Isa {
     /// The code that leads from an address to a multiple of a number.
     ghost align: { ℕ → ℕ → List Self.Instruction };
 
-    /// It leads behind itself, and changes nothing.
+    /// It leads to the place after itself, and changes nothing.
     ghost alignments_walk: { AlignmentsWalk Self.rows Self.fits align };
 }
 
@@ -52,7 +52,7 @@ pub fn alignments_are_carried<T: Alignments>()
 
 /// A target that jumps and calls by a register.
 pub trait RegisterLeaps: Isa {
-    /// The code of a jump, in a frame of so many bytes, to the word of a register.
+    /// The code of a jump, in a frame of this many bytes, to the word of a register.
     ghost jump: { ℕ → Reg → List Self.Instruction };
 
     /// It leads there, and changes nothing.
@@ -83,10 +83,10 @@ pub fn register_leaps_are_carried<T: RegisterLeaps>()
 
 /// A target that branches on sums and differences.
 pub trait SumBranches: Isa {
-    /// The code of such a branch on a register and a second operand, in a frame of so many bytes, which stands at an address and leads to another one.
+    /// The code of such a branch on a register and a second operand, in a frame of this many bytes, which is at an address and leads to another one.
     ghost branch: { ℕ → BranchSumOp → Reg → Operand → ℕ → ℕ → List Self.Instruction };
 
-    /// It leaves the sum or difference in the register, and leads there where the operation asks for it, and else behind itself.
+    /// It leaves the sum or difference in the register, and leads there where the operation asks for it, and else after itself.
     ghost branches_lead: { SumBranchesLead Self.rows Self.scratch Self.fits branch };
 }
 
@@ -97,7 +97,7 @@ pub fn sum_branches_are_carried<T: SumBranches>()
 
 /// A target that returns.
 pub trait Returns: Isa {
-    /// The code of a return that restores so many of V0 to V2, in a frame of so many bytes, with a word or none.
+    /// The code of a return that restores this many of V0 to V2, in a frame of this many bytes, with a word or none.
     ghost ret: { ℕ → ℕ → Returned → List Self.Instruction };
 
     /// It leaves the frame.
@@ -111,7 +111,7 @@ pub fn returns_are_carried<T: Returns>()
 
 /// A target that makes frames.
 pub trait Prologs: Isa {
-    /// The code of a `prolog` that saves so many of V0 to V2, makes a frame of so many bytes, and stores so many homes.
+    /// The code of a `prolog` that saves this many of V0 to V2, makes a frame of this many bytes, and stores this many homes.
     ghost prolog: { ℕ → ℕ → ℕ → List Self.Instruction };
 
     /// It makes the frame, where a call has arrived.
@@ -125,13 +125,13 @@ pub fn prologs_are_carried<T: Prologs>()
 
 /// A target with the code of all these nodes.
 pub trait HasControls: Isa {
-    /// The code of each family, where frames save so many of V0 to V2.
+    /// The code of each family, where frames save this many of V0 to V2.
     ghost codes: { ℕ → Codes Self.Instruction };
 
     /// Whether registers are as a host function asks for them, besides the arguments.
     ghost ready: { HostName → (ℕ → ℕ) → Bool };
 
-    /// What it does wherever it stands.
+    /// What it does wherever it is.
     ghost controls: { (saved : ℕ) → Controls Self.rows Self.scratch Self.fits ready saved (codes saved) };
 }
 

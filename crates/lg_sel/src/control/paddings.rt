@@ -7,7 +7,7 @@ ghost use Rattle.lg_sel.specs.Holes.{words_in, ones};
 
 use crate::{Item, Items};
 
-/// How many bytes lead from a place to the next multiple of an alignment.
+/// Returns how many bytes lead from a place to the next multiple of an alignment.
 pub fn gap(place: u32, alignment: u32) -> u32
     requires { is_alignment alignment ≡ true }
     ensures value { result ≡ gap place alignment }
@@ -16,7 +16,7 @@ pub fn gap(place: u32, alignment: u32) -> u32
     (alignment - place % alignment) % alignment
 }
 
-/// Appends an instruction that does nothing, or any other, so many times. There is room for it.
+/// Appends an instruction that does nothing, or any other, this many times. There is room for it.
 pub fn put_idle<L: Item>(instr: L::Instruction, count: u32, items: &mut Items<L>)
     requires { words_in L.holes items.old + count ≤ 64 }
     ensures { items.new ≡ items.old ++ ones L.one (idle instr count) }

@@ -19,7 +19,7 @@ use Rattle.lg_sel.proofs.OfControl.StretchLemmas.{aligned, walked}
 use Rattle.lg_sela.specs.Control.Alignments.{padding, no_op, align_code, AlignmentsAlign}
 use Rattle.lg_sela.proofs.OfControl.StretchLemmas.{all-passed}
 
--- behind them is a multiple
+-- after them is a multiple
 pub alignments-align : AlignmentsAlign
 alignments-align at n h even = idle-aligns no_op at n h even
 

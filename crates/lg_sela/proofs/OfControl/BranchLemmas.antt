@@ -37,7 +37,7 @@ use Rattle.lg_sela.specs.Control.ControlItems.{second_register}
 use Rattle.lg_sela.specs.Control.TwoWays.{second_code, before_branch, branch_code}
 use Rattle.lg_sela.proofs.OfControl.TwoWayLemmas.{IsMade, some-is, second-made, two-ways}
 
--- the condition behind the comparison of two words is that of the node, and no register changes
+-- the condition after the comparison of two words is that of the node, and no register changes
 module _ (a b x y : ℕ) (al : a < 31) (bl : b < 31) (w : Held) (ea : w.registers a ≡ x) (eb : w.registers b ≡ y) (h : x < 2 ^ 64) (k : y < 2 ^ 64) where
   ra : read w.registers a ≡ x
   ra = read-is w.registers a al ∙ ea
@@ -144,7 +144,7 @@ held-computes a v = by (is_small v)
     by true = refl
     by false = refl
 
--- ---- what stands before the branch
+-- ---- what is before the branch
 -- the flags are those of the comparison, and nothing but the link changes
 record Compares (o : Condition) (front : List Instr) (x y : ℕ) (w : Held) : Type 0 where
   computes : all_compute front ≡ true

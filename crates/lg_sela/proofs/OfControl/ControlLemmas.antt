@@ -56,7 +56,7 @@ leads-settled Short to at c l = refl
 leads-settled Near to at c l = refl
 leads-settled Far to at c l = refl
 
--- it stands behind instructions and one that sets the flags
+-- it is after instructions and one that sets the flags
 pub branch-settled : (r : Reach) (to : ℕ → ℕ) (at : ℕ) (xs : List Instr) (sets : Instr) (c : Cond) (l : Label)
     → settled to at (ones xs ++ branch_if_items r sets c l) ≡ branch_if r (xs ++ (sets ∷ [])) c at (to l.0)
 branch-settled r to at xs sets c l =

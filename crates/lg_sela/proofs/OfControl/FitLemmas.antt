@@ -249,7 +249,7 @@ module _ (r : Reach) (labels frame homes saved at : ℕ) where
   comparing-fits o a (operand.Label l) ha = comparison-fits o a link ha (omega arith)
   comparing-fits o a (operand.Slot k) ha = comparison-fits o a link ha (omega arith)
 
-  -- and an instruction that sets the flags and a branch stand behind that
+  -- and an instruction that sets the flags and a branch are after that
   branched : (x : Operand) (sets : Instr) (c : Cond) (l : Label) → IsGiven labels x → IsInstr sets → l.0 < labels
       → AreEmitted labels true (second_items x ++ branch_if_items r sets c l)
   branched x sets c l v fit lt =

@@ -123,7 +123,7 @@ fallen sp first most low high = grind (arith, most, low, high)
 pointer-above : (sp first : ℕ) → 104 ≤ first → first ≤ 2048 → 0x3FF00010 + 272 ≤ sp → sp ≤ 0x40000000 → add_words (sp - first) (first - 16) ≡ sp - 16
 pointer-above sp first least most low high = grind (arith, least, most, low, high)
 
--- the first fall, the stores and FP are so many instructions
+-- the first fall, the stores and FP are this many instructions
 abbrev framed_size : ℕ → ℕ → ℕ
 framed_size saved homes = suc (1 + length (first_registers saved) + length (home_registers homes))
 
@@ -150,7 +150,7 @@ module _ (code : List ℕ) (trash : ℕ) (small : length code ≤ most_code) (by
   abbrev fp-code : Instr
   fp-code = instr.Imm Addi rows.frame_pointer stack_pointer (first - 16) false
 
-  -- the stores of homes stand in front of FP
+  -- the stores of homes are in front of FP
   abbrev home-stores : List Instr
   home-stores = stores_below (store_word first) places 5
 

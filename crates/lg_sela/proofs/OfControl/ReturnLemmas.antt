@@ -71,14 +71,14 @@ load-act q rd by base address w offset at e held =
 abbrev Raised : List Instr → Run CpuState → Run CpuState → Type 0
 Raised is q u = Chain act (Raising act acts_above stack_pointer) is q u
 
--- a run in a frame of so many bytes, whose caller's stack pointer is this, at instruction k of n
+-- a run in a frame of this many bytes, whose caller's stack pointer is this, at instruction k of n
 pub record InFrame (base n k frame sp : ℕ) (q : Run CpuState) : Type 0 where
   pub at : RunsAt base n k q
   pub pointer : q.state.registers rows.frame_pointer ≡ sp - 16
   pub stack : q.state.registers stack_pointer + frame ≡ sp
   pub seen : HasStack q.state.bytes
 
--- the run behind loads of so many of V0, V1 and V2, none of which lets the stack pointer fall
+-- the run after loads of this many of V0, V1 and V2, none of which lets the stack pointer fall
 record Restored (is : List Instr) (base n k frame sp kept : ℕ) (q : Run CpuState) : Type 0 where
   end : Run CpuState
   chain : (rest : List Instr) (u : Run CpuState) → Raised rest end u → Raised (is ++ rest) q u
@@ -88,7 +88,7 @@ record Restored (is : List Instr) (base n k frame sp kept : ℕ) (q : Run CpuSta
   bytes : end.state.bytes ≡ q.state.bytes
   mark : end.state.mark ≡ q.state.mark
 
--- the run behind the others: V0, V1 and V2 stay
+-- the run after the others: V0, V1 and V2 stay
 record Leaves (is : List Instr) (q : Run CpuState) (sp back : ℕ) : Type 0 where
   end : Run CpuState
   chain : Raised is q end
@@ -101,7 +101,7 @@ record Leaves (is : List Instr) (q : Run CpuState) (sp back : ℕ) : Type 0 wher
   here : end.state.pc ≡ back
   progress : status_of end.progress ≡ status_of (arrived back)
 
--- the run behind instructions that return from a frame: all but the last are straight, and none lets the stack pointer fall
+-- the run after instructions that return from a frame: all but the last are straight, and none lets the stack pointer fall
 pub record Returns (code : List Instr) (q : Run CpuState) (sp kept back : ℕ) : Type 0 where
   pub end : Run CpuState
   pub chain : Chain act acts_above code q end
@@ -264,7 +264,7 @@ module _ (base n k frame sp : ℕ) (low : 0x3FF00010 + 272 ≤ sp) (high : sp �
     caller : HasWord q.state.bytes fp word
     caller = stack-word q.state.bytes fp f.seen (omega (arith, low)) (omega (arith, high))
 
-    -- the jump behind them
+    -- the jump after them
     abbrev left : Run CpuState → Run CpuState
     left s = after s (goes_on s.state back)
 
@@ -451,7 +451,7 @@ return-short kept frame = by (nat_lt frame 4096)
         let size = length-append (restores kept) (link_load ∷ far_return) in
         record { some = omega (arith, size); few = omega (arith, loads, size) }
 
--- ---- what stands in front of it
+-- ---- what is in front of it
 -- it writes no stack pointer
 result-within : (r : Returned) → Within (result_code r)
 result-within NoWord = tt

@@ -28,7 +28,7 @@ lowers-by i is q e runs acts low rest =
     let d : does act i q ≡ after q e = went q (act i q.state) runs ∙ ap (after q) acts in
     (subst (λ z. z.state.registers stack_pointer ≤ q.state.registers stack_pointer) (sym d) low, subst (Along (does act) StackLowers is) (sym d) rest)
 
--- a run in which so many instructions made the stack pointer fall, and none let it rise
+-- a run in which this many instructions made the stack pointer fall, and none let it rise
 pub record Falls (is : List Instr) (base n k size : ℕ) (q : Run CpuState) : Type 0 where
   pub end : Run CpuState
   pub chain : Chain act acts_above is q end

@@ -1,4 +1,4 @@
--- Instructions of AArch64 that stand in the code, and runs over them.
+-- Instructions of AArch64 that are in the code, and runs over them.
 use Rattle.std.proofs.Common.{◌≡◌, ℕ, ◌+◌, ◌*◌, ◌^◌, ◌<◌, ◌≤◌, true, List, [], ◌∷◌, ◌++◌, ap, ◌∙◌, arith, length, Bool}
 use Rattle.lg_carry.specs.Carries.{Sinks}
 use Rattle.lg_base.specs.Layout.{code_base, most_code}
@@ -28,7 +28,7 @@ module _ (moves : Bool) (code : List ℕ) (trash : ℕ) (small : length code ≤
   rows : AreRows (a64_rows code trash) IsInstr
   rows = are-rows code trash small bytes word
 
-  -- instructions that stand in the code lie in the code part
+  -- instructions that are in the code lie in the code part
   pub stands-high : (from : ℕ) (is : List Instr) → 0 < length is → StandsAt (a64_rows code trash) moves IsInstr from is → from + 4 * length is ≤ code_base + most_code
   stands-high from is some k =
       let long = spellings-long is in

@@ -25,7 +25,7 @@ sum-overflow x y = ap (sum_leaves x y) same
 difference-overflow : (x y : ℕ) → x < 2 ^ 64 → y < 2 ^ 64 → overflow_flag (difference_flags x y 0) ≡ difference_overflows x y
 difference-overflow x y h k = ap (difference_leaves x y) (difference-same x y h k)
 
--- ---- the register of the first operand gets the word, the flags tell where to go, and all other registers are kept
+-- ---- the register of the first operand gets the word, the flags say where to go, and all other registers are kept
 module _ (a b x y : ℕ) (al : a < 31) (bl : b < 31) (w : Held) (ea : w.registers a ≡ x) (eb : w.registers b ≡ y) (h : x < 2 ^ 64) (k : y < 2 ^ 64) where
   pub record Sums (o : BranchSumOp) : Type 0 where
     pub value : (computed_by (sum_instruction o a b) w).registers a ≡ branch_sum_value o x y

@@ -1,4 +1,4 @@
--- A branch on a condition leads to two ways: to its label, or behind itself.
+-- A branch on a condition leads to two ways: to its label, or after itself.
 use Rattle.lg_carry.proofs.BlockLemmas.{no-width}
 use Rattle.std.proofs.Common.{◌≡◌, ◌≢◌, ℕ, ◌+◌, ◌*◌, ◌%◌, ◌^◌, ◌<◌, ◌≤◌, Bool, true, false, List, [], ◌∷◌, Some, refl, sym, ap, ◌∙◌, subst, arith, length}
 use Rattle.std.proofs.Common.{length-append, append_assoc, ◌++◌}
@@ -119,7 +119,7 @@ turned-holds cond.Le f = sym (twice (condition_holds cond.Gt f))
 two-on : (pc : ℕ) → pc < 2 ^ 62 → away pc (word_of (pos 2)) ≡ pc + 8
 two-on pc h = grind (arith, h)
 
--- ---- the branch, where what stands before it computes
+-- ---- the branch, where what is before it computes
 module _ (code : List ℕ) (trash : ℕ) (small : length code ≤ most_code) (bytes : AreBytes code) (word : trash < 2 ^ 64)
     (front back : List Instr) (c : Cond) (from to : ℕ) (q : Run CpuState) (k : StandsAt (a64_rows code trash) false IsInstr from (front ++ back)) (more : 0 < length back)
     (all : all_compute front ≡ true) (few : length front ≤ 60) (runs : status_of q.progress ≡ Running) (at : q.state.pc ≡ from) (goes-there : Bool)
@@ -158,7 +158,7 @@ module _ (code : List ℕ) (trash : ℕ) (small : length code ≤ most_code) (by
   turned-reads : condition_holds (turned c) r.state.flags ≡ not goes-there
   turned-reads = turned-holds c r.state.flags ∙ ap not reads
 
-  -- one instruction behind those that compute is passed
+  -- one instruction after those that compute is passed
   passes-join-one : (x : Instr) (rest : List Instr) → back ≡ x ∷ rest → (e : Effect CpuState) → acts_above x r.state → act x r.state ≡ e
       → PassesIn (a64_processor code trash) false from high (length front + 1) q (after r e)
   passes-join-one x rest is e above does =
@@ -167,7 +167,7 @@ module _ (code : List ℕ) (trash : ℕ) (small : length code ≤ most_code) (by
       (subst (λ z. PassesIn (a64_processor code trash) false from (behind (a64_rows code trash) from (front ++ z)) 1 r (after r e)) (sym is)
       (one-passed false code trash small bytes word from front x rest r e (subst (λ z. StandsAt (a64_rows code trash) false IsInstr from (front ++ z)) is k) ran.runs above here does))
 
-  -- one instruction behind those that compute leads somewhere
+  -- one instruction after those that compute leads somewhere
   one-leads : (x : Instr) (rest : List Instr) (target : ℕ) → back ≡ x ∷ rest → code_base ≤ target → acts_above x r.state → act x r.state ≡ goes_on r.state target
       → Way (a64_processor code trash) a64_scratch from high W target q
   one-leads x rest target is low above does =

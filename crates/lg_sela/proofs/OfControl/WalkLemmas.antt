@@ -29,11 +29,11 @@ use Rattle.lg_sela.specs.Control.RegisterLeaps.{register_jump_code}
 use Rattle.lg_sela.proofs.OfControl.StretchLemmas.{stands-high, one-passed}
 use Rattle.lg_sela.proofs.OfControl.WordLemmas.{words-lead}
 
--- a branch of so many words from an address leads to another
+-- a branch of this many words from an address leads to another
 pub leads-there : (pc from to : ℕ) → pc ≡ from → from < 2 ^ 62 → to < 2 ^ 62 → from % 4 ≡ 0 → to % 4 ≡ 0 → away pc (word_of (words_between from to)) ≡ to
 leads-there pc from to at h k f t = ap (λ p. away p (word_of (words_between from to))) at ∙ words-lead from to h k f t
 
--- the word of a register that stands for a portable one
+-- the word of a register that corresponds to a portable one
 pub reads-portable : (w : ℕ → ℕ) (a : Reg) → read w (register_of Aarch64 a) ≡ w (register_of Aarch64 a)
 reads-portable w a = let l = register-small a in read-is w (register_of Aarch64 a) (omega (arith, l))
 

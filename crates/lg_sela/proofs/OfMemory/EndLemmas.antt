@@ -1,4 +1,4 @@
--- An instruction that loads or stores, behind code that computes.
+-- An instruction that loads or stores, after code that computes.
 use Rattle.lg_sel.specs.A64Touched.{touched}
 use Rattle.lg_base.specs.declared.target.Target.TheVariants.{Aarch64}
 use Rattle.lg_carry.specs.Memory.Accesses.{LiesAbove}

@@ -118,7 +118,7 @@ unscaled-row-good Ldur r base v h b e = let n = close-number v e in ((h.0, b, n.
 unscaled-row-good Stur r base v h b e = let n = close-number v e in ((h.0, b, n.0, n.1), tt, refl)
 
 -- ---- the code of nodes
--- good instructions, of which there are at most so many
+-- good instructions (at most this many)
 record IsFitCode (most : ℕ) (is : List Instr) : Type 0 where
   good : AreGood is
   few : length is ≤ most
@@ -214,7 +214,7 @@ next-argument-fits d s h k =
     }
 
 -- ---- items
--- good ones, of which there are at most so many instructions and so many fixes
+-- good ones (at most this many instructions and this many fixes)
 abbrev AreFit : ℕ → ℕ → List Item → Type 0
 AreFit most fixes xs = AreBounded a64_holes IsGoodItem most fixes xs
 

@@ -75,7 +75,7 @@ load-does code trash t s rd base count a v fp T small at readable sp low safe lt
       bytes_are = bytes;
     })
 
--- the row of a word does so at a number of bytes behind a register
+-- the row of a word does so at an offset in bytes from a register
 word-act : (q : CpuState) (rd base n a v : ℕ) → n < 2 ^ 64 → add_words (q.registers base) n ≡ a → loaded q.bytes a 8 ≡ Some v → act (instr.Unscaled Ldur rd base (signed_view n)) q ≡ sets q rd v
 word-act q rd base n a v small at e = ap (λ m. load_at q rd (add_words (q.registers base) m) 8 false) (view-word n small) ∙ ap (λ b. load_at q rd b 8 false) at ∙ ap (loads q rd 8 false) e
 

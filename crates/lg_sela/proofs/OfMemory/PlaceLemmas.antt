@@ -26,7 +26,7 @@ use Rattle.lg_carry.specs.Memory.Accesses.{Address, Base, At, Sum, Index, addres
 use Rattle.lg_carry.proofs.OfMemory.BehindLemmas.{all-compute-append}
 use Rattle.lg_sela.specs.Memory.Accesses.{Place, at_link, is_scaled, is_small, sum_code, is_close, is_counted, place_of}
 
--- the code computes the address into the link alone, or none, and keeps the flags; an access has so many bytes
+-- the code computes the address into the link alone, or none, and keeps the flags; an access has this many bytes
 pub record IsPlaced (bytes : ℕ) (p : Place) (w : ℕ → ℕ) (f : Flags) (a : ℕ) : Type 0 where
   pub computes : all_compute p.code ≡ true
   pub keeps : (x : ℕ) → x ≢ link → (computed p.code (holding w (nzcv f))).registers x ≡ w x
@@ -53,7 +53,7 @@ scaled bytes v e = whole bytes v (and_parts (v % bytes == 0) (nat_lt (v / bytes)
 less-negated : (x v : ℕ) → x < 2 ^ 64 → v < 2 ^ 64 → sub_words x (negated v) ≡ add_words x v
 less-negated x v h k = omega (arith, h, k)
 
--- a number of which the row that counts bytes is taken
+-- a number for which the row that counts bytes is taken
 pub close_of : (bytes v : ℕ) → is_counted bytes v ≡ true → is_close v ≡ true
 close_of bytes v e = (and_parts (not (is_scaled bytes v)) (is_close v) (and_parts (bytes == 8) (not (is_scaled bytes v) && is_close v) e).1).1
 

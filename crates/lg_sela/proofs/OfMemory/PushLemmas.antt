@@ -74,7 +74,7 @@ module _ (code : List ℕ) (trash : ℕ) (q : Run CpuState) (fp : ℕ) where
       (computations-do (a64_computer code trash) (is-computer code trash) is s fp 0 (spoils a64_scratch []) p.computes)
 
   -- ---- into a stack word
-  -- instructions that compute the link alone, behind which a register holds the word
+  -- instructions that compute the link alone, after which a register holds the word
   record Prepares (pre : List Instr) (from v : ℕ) : Type 0 where
     computes : all_compute pre ≡ true
     keeps : (y : ℕ) → y ≢ link → (computed pre (holding w (nzcv q.state.flags))).registers y ≡ w y

@@ -73,7 +73,7 @@ store-does code trash t s base from count a v fp T small at holds writable sp lo
       bytes_are = λ y off. stored-same s.bytes q.bytes a (store_width t) v y (bytes y off);
     })
 
--- the row of a word does so at a number of bytes behind a register
+-- the row of a word does so at an offset in bytes from a register
 word-act : (q : CpuState) (base from n a : ℕ) → n < 2 ^ 64 → add_words (q.registers base) n ≡ a → mapped q.bytes a 8 ≡ true
     → act (instr.Unscaled Stur from base (signed_view n)) q ≡ arrives (add_words q.pc 4) q.registers q.flags (stored q.bytes a 8 (read q.registers from)) q.mark
 word-act q base from n a small at there =

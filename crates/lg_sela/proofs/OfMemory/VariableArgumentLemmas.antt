@@ -54,7 +54,7 @@ direction k = add_words (high_sign k) 8
 abbrev above : ℕ → ℕ → ℕ
 above fp k = sub_words fp (mul_words (sub_words k 1) (direction k))
 
--- FP stands below the caller's stack words, and above the homes
+-- FP is below the caller's stack words, and above the homes
 abbrev place : ℕ → ℕ → ℕ
 place sp k = if nat_lt k 8 then home_word (frame_pointer sp) k else stack_argument sp (k - 8)
 
@@ -161,7 +161,7 @@ module _ (w : ℕ → ℕ) (f : Flags) (d s k : ℕ) (a : Apart d s) (holds : w 
   off-both r nd ns nl =
       ap (λ h. h.registers r) computes-so ∙ put-other u5 s (add_words k 1) r ns ∙ put-other u4 d (above (w 29) k) r nd ∙ put-other u3 d (sub_words k 1) r nd ∙ off r nl
 
-  -- and what is left behind that
+  -- and what is left after that
   left : (v n r : ℕ) → add_words k 1 ≡ n → r ≢ link → with_register (computed (computing d s) (holding w f)).registers d v r ≡ with_register (with_register w d v) s n r
   left v n r e ne = ap (λ h. with_register h.registers d v r) computes-so ∙ by (r == d) refl (r == s) refl
     where

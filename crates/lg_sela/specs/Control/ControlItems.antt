@@ -58,11 +58,11 @@ abbrev pub leads_items : Reach → Cond → Label → List Item
 leads_items Far holds l = One (instr.BranchIf (turned holds) (pos 2)) ∷ Branch B l.0 ∷ []
 leads_items r holds l = CondBranch holds l.0 ∷ []
 
--- behind an instruction that sets the flags
+-- after an instruction that sets the flags
 abbrev pub branch_if_items : Reach → Instr → Cond → Label → List Item
 branch_if_items r sets holds l = One sets ∷ leads_items r holds l
 
--- what stands before the comparison with an operand: nothing where an instruction holds it
+-- what is before the comparison with an operand: nothing where an instruction holds it
 abbrev pub compared_items : Condition → Operand → List Item
 compared_items o (operand.Number v) = if is_held o v then [] else second_items (operand.Number v)
 compared_items o x = second_items x
@@ -128,8 +128,8 @@ plain_items plain.Ret xs frame homes saved at = ones (return_code saved frame)
 plain_items plain.Align xs frame homes saved at = align_items at xs
 plain_items o xs frame homes saved at = []
 
--- ---- of a node in a function with a frame of so many bytes and so many homes that are read, where frames save so many of V0, V1 and V2, whose code begins at
--- an address, or a place of the buffer, and has a reach
+-- ---- of a node in a function with a frame of this many bytes and this many homes that are read, where frames save this many of V0, V1 and V2, whose code
+-- begins at an address, or a place of the buffer, and has a reach
 abbrev pub control_items : Reach → Op → List Operand → ℕ → ℕ → ℕ → ℕ → List Item
 control_items r (op.Branch o last) xs frame homes saved at = branch_items r o xs
 control_items r (op.BranchSum o last) xs frame homes saved at = sum_items r o xs

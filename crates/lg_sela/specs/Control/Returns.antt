@@ -1,5 +1,6 @@
 -- `ret`, `retr`, `reti` and `epilog`: those of V0, V1 and V2 of the caller that are saved, the return address and the caller's frame pointer come back from
--- the frame, the stack pointer rises to that of the caller, and the run goes on behind the call. Each word is loaded before the stack pointer rises above it.
+-- the frame, the stack pointer rises to that of the caller, and the run continues after the call. Each word is loaded before the stack pointer rises above
+-- it.
 use Rattle.std.specs.Prelude.{ℕ, nat_lt, if◌then◌else◌, pos, negsuc, false, List, [], ◌∷◌, ◌++◌, take}
 use Rattle.lg_base.specs.Conventions.{result_register}
 use Rattle.lg_base.specs.declared.target.Target.TheVariants.{Aarch64}
@@ -21,7 +22,7 @@ abbrev pub kept_loads : List Instr
 kept_loads =
     instr.Unscaled Ldur 19 frame_pointer (negsuc 7) ∷ instr.Unscaled Ldur 20 frame_pointer (negsuc 15) ∷ instr.Unscaled Ldur 21 frame_pointer (negsuc 23) ∷ []
 
--- and of the first of them, of which so many are saved
+-- and of the first of them, this many of which are saved
 abbrev pub restores : ℕ → List Instr
 restores saved = take saved kept_loads
 
@@ -40,7 +41,7 @@ far_return =
     instr.Imm Addi stack_pointer frame_pointer 0 false ∷ instr.Unscaled Ldur frame_pointer stack_pointer (pos 0)
     ∷ instr.Imm Addi stack_pointer stack_pointer 16 false ∷ instr.BranchReg Ret link ∷ []
 
--- what stands behind the loads of V0, V1 and V2
+-- what is after the loads of V0, V1 and V2
 abbrev pub leaving_code : ℕ → List Instr
 leaving_code frame = link_load ∷ (if nat_lt frame 4096 then near_return frame else far_return)
 

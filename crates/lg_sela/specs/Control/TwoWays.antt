@@ -1,4 +1,4 @@
--- The code of branches on AArch64: a branch on a condition, behind an instruction that sets the flags.
+-- The code of branches on AArch64: a branch on a condition, after an instruction that sets the flags.
 use Rattle.std.specs.Prelude.{ℕ, ◌+◌, ◌*◌, if◌then◌else◌, pos, List, [], ◌∷◌, ◌++◌, length, Option, Some, None}
 use Rattle.lg_base.specs.declared.target.Target.TheVariants.{Aarch64}
 use Rattle.lg_op.specs.declared.op.BranchSumOp.{BranchSumOp}
@@ -26,7 +26,7 @@ abbrev pub leads_if : Reach → Cond → ℕ → ℕ → List Instr
 leads_if Far holds at to = instr.BranchIf (turned holds) (pos 2) ∷ instr.Branch B (words_between (at + 4) to) ∷ []
 leads_if r holds at to = instr.BranchIf holds (words_between at to) ∷ []
 
--- front stands before it
+-- front is before it
 abbrev pub branch_if : Reach → List Instr → Cond → ℕ → ℕ → List Instr
 branch_if r front holds from to = front ++ leads_if r holds (from + 4 * length front) to
 

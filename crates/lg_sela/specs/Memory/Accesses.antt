@@ -57,11 +57,11 @@ pub record Place : Type 0 where
 abbrev pub at_register : ℕ → Place
 at_register a = record { code = []; base = a; count = 0 }
 
--- the link holds nothing that is needed behind a `prolog`, so it takes addresses
+-- the link holds nothing that is needed after a `prolog`, so it takes addresses
 abbrev pub at_link : List Instr → Place
 at_link code = record { code = code; base = link; count = 0 }
 
--- a number that the row holds, where an access has so many bytes
+-- a number that the row holds, where an access has this many bytes
 abbrev pub is_scaled : ℕ → ℕ → Bool
 is_scaled bytes v = (v % bytes == 0) && nat_lt (v / bytes) 4096
 
@@ -80,7 +80,7 @@ sum_code a v =
 abbrev pub indexed : ℕ → ℕ → ℕ → Place
 indexed bytes a v = if is_scaled bytes v then record { code = []; base = a; count = v / bytes } else at_link (sum_code a v)
 
--- an address, where an access has so many bytes
+-- an address, where an access has this many bytes
 abbrev pub place_of : ℕ → Address → Place
 place_of bytes (Base a) = at_register (register_of Aarch64 a)
 place_of bytes (At v) = at_link (number_code link v)
@@ -97,7 +97,7 @@ storing t v p = p.code ++ instr.Scaled (store_row t) v p.base p.count ∷ []
 abbrev pub is_close : ℕ → Bool
 is_close v = nat_lt ((v + 256) % 2 ^ 64) 512
 
--- whether such a row is taken for a number, and for an address, where an access has so many bytes
+-- whether such a row is taken for a number, and for an address, where an access has this many bytes
 abbrev pub is_counted : ℕ → ℕ → Bool
 is_counted bytes v = (bytes == 8) && (not (is_scaled bytes v) && is_close v)
 

@@ -18,7 +18,7 @@ use Rattle.lg_sela.specs.Memory.Accesses.{load_row}
 abbrev pub home_distance : ℕ → ℕ
 home_distance k = 32 + 8 * k
 
--- how many accesses behind FP argument k stands in the caller's stack words: FP stands 16 bytes below these
+-- how many accesses above FP argument k is in the caller's stack words: FP stands 16 bytes below these
 abbrev pub stack_count : ValueType → ℕ → ℕ
 stack_count t k = (16 + 8 * (k - 8)) / width t
 

@@ -20,7 +20,7 @@ direction_code s = Bitfield Sbfm link s 3 3 ∷ Bitfield Ubfm link link 60 59 �
 abbrev pub address_code : ℕ → ℕ → List Instr
 address_code d s = Imm Subi d s 1 false ∷ MulAdd Msub d d link frame_pointer ∷ []
 
--- where the argument stands from that address, in bytes
+-- where the argument is from that address, in bytes
 abbrev pub argument_offset : ℤ
 argument_offset = negsuc 39
 

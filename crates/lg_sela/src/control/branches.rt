@@ -23,7 +23,7 @@ fn comparison(condition: Condition, a: u8, b: u8) -> Instr
     }
 }
 
-// Whether an instruction that compares holds a number, or its negative, of 12 bits.
+// Returns whether an instruction that compares holds a number, or its negative, of 12 bits.
 fn is_held(condition: Condition, value: u64) -> bool
     ensures { result ≡ is_held condition value }
 {
@@ -96,7 +96,7 @@ fn taken(condition: Condition) -> Cond
     }
 }
 
-// The condition that holds where another one does not.
+// Returns the condition that holds where another one does not.
 fn turned(cond: Cond) -> Cond
     ensures { result ≡ turned cond }
 {

@@ -28,7 +28,7 @@ const V1: u8 = 20;
 
 const V2: u8 = 21;
 
-// A word of the frame is stored by the stack pointer, which has fallen by so many bytes.
+// A word of the frame is stored by the stack pointer, which has fallen by this many bytes.
 fn store(first: u32, reg: u8, word: u32) -> Instr
     requires large { 104 ≤ first }
     requires small { first ≤ 2048 }
@@ -119,7 +119,7 @@ fn put_fall(size: u32, items: &mut Items<Item>)
     }
 }
 
-// Appends the stores of a `prolog` with so many homes, which saves so many of V0 to V2.
+// Appends the stores of a `prolog` with this many homes, which saves this many of V0 to V2.
 #[tactic(auto, using(lg_sela_values::proofs::ItemLemmas::words_append))]
 fn put_stores(first: u32, homes: u32, saved: u32, items: &mut Items<Item>)
     requires room { words_in items.old ≤ 50 }
@@ -133,7 +133,7 @@ fn put_stores(first: u32, homes: u32, saved: u32, items: &mut Items<Item>)
     items.all(&home_stores(first)[..homes.min(8) as usize]);
 }
 
-// Appends the fall of the stack pointer by so much of a frame, its words, with so many homes and so many of V0, V1 and V2, and FP to none.
+// Appends the fall of the stack pointer by this much of a frame, its words, with this many homes and this many of V0, V1 and V2, and FP to none.
 #[tactic(auto, using(lg_sela_values::proofs::ItemLemmas::words_append))]
 fn put_words(first: u32, homes: u32, saved: u32, items: &mut Items<Item>)
     requires empty { items.old ≡ [] }
@@ -152,14 +152,14 @@ fn put_words(first: u32, homes: u32, saved: u32, items: &mut Items<Item>)
     ));
 }
 
-// Whether a frame of so many bytes is made at once.
+// Returns whether a frame of this many bytes is made at once.
 fn is_near(size: u32) -> bool
     ensures { result ≡ is_near size }
 {
     size <= 2048 && size % 8 == 0
 }
 
-// Appends the code of a `prolog` with so many homes, which saves so many of V0, V1 and V2, to none.
+// Appends the code of a `prolog` with this many homes, which saves this many of V0, V1 and V2, to none.
 #[tactic(auto, using(lg_sela_values::proofs::ItemLemmas::words_append))]
 fn put_prolog(size: u32, homes: u32, saved: u32, items: &mut Items<Item>)
     requires empty { items.old ≡ [] }
@@ -186,7 +186,7 @@ fn load(reg: u8, imm: i32) -> Instr
     }
 }
 
-// The return.
+// Returns the return.
 fn ret() -> Instr
     ensures { result ≡ Instr.BranchReg (BranchRegOp.Ret) link }
 {
@@ -232,7 +232,7 @@ fn far_return() -> [Instr; 4]
     ]
 }
 
-// Appends the loads of so many of V0, V1 and V2, and of the return address.
+// Appends the loads of this many of V0, V1 and V2, and of the return address.
 fn put_loads(saved: u32, items: &mut Items<Item>)
     requires room { words_in items.old ≤ 50 }
     ensures loaded { items.new ≡ (items.old ++ ones (restores saved)) ++ ones (link_load ∷ []) }
@@ -242,7 +242,7 @@ fn put_loads(saved: u32, items: &mut Items<Item>)
     items.one(load(LINK, 8));
 }
 
-// Appends a return from a frame of so many bytes, in which so many of V0, V1 and V2 are saved.
+// Appends a return from a frame of this many bytes, in which this many of V0, V1 and V2 are saved.
 pub(crate) fn put_return(frame: u32, saved: u32, items: &mut Items<Item>)
     requires { words_in items.old ≤ 50 }
     ensures { items.new ≡ items.old ++ ones (return_code saved frame) }

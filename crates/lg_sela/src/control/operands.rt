@@ -9,7 +9,7 @@ use lg_op::Operand;
 use lg_sel::Items;
 use lg_sela_values::{Item, LINK, put_number, register_of};
 
-// The register in which an operand is once `put_second` has put it there.
+// Returns the register in which an operand is once `put_second` has put it there.
 pub(crate) fn second_register(operand: Operand) -> u8
     ensures { result ≡ second_register operand }
 {
@@ -19,7 +19,7 @@ pub(crate) fn second_register(operand: Operand) -> u8
     }
 }
 
-// Puts a word that stands for itself into a register.
+// Puts a word that denotes itself into a register.
 #[tactic(auto, using(lg_sela_values::proofs::NumberItemLemmas::number_words))]
 pub(crate) fn put_word(rd: u8, operand: Operand, items: &mut Items<Item>)
     requires empty { items.old ≡ [] }

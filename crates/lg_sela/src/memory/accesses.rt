@@ -14,14 +14,14 @@ use lg_op::{Addressing, Node, Operand, StoreType, ValueType};
 use lg_sel::Items;
 use lg_sela_values::{Item, LINK, imm, put_number, register_of, row};
 
-// Where an access is: a register, and a number of accesses behind it, below 4,096.
+// Where an access is: a register, and an offset from it in accesses, below 4,096.
 #[derive(Clone, Copy)]
 struct Base {
     register: u8,
     count: u16,
 }
 
-// The row that loads by a type.
+// Returns the row that loads by a type.
 pub(crate) fn load_row(t: ValueType) -> ScaledOp
     ensures { result ≡ load_row t }
 {
@@ -36,7 +36,7 @@ pub(crate) fn load_row(t: ValueType) -> ScaledOp
     }
 }
 
-// The row that stores by a type.
+// Returns the row that stores by a type.
 fn store_row(t: StoreType) -> ScaledOp
     ensures { result ≡ store_row t }
 {
@@ -48,7 +48,7 @@ fn store_row(t: StoreType) -> ScaledOp
     }
 }
 
-// A row that loads or stores a register at a number of accesses behind another.
+// A row that loads or stores a register at an offset from another, counted in accesses.
 pub(crate) fn scaled(op: ScaledOp, rt: u8, rn: u8, imm: u16) -> Instr
     ensures { result ≡ Instr.Scaled op rt rn imm }
 {
@@ -80,7 +80,7 @@ fn put_sum(register: u8, value: u64, items: &mut Items<Item>)
     }
 }
 
-// Whether a row holds a number as one of accesses of so many bytes.
+// Returns whether a row holds a number as one of accesses of this many bytes.
 fn is_scaled(bytes: u64, value: u64) -> bool
     requires { 0 < bytes }
     ensures { result ≡ is_scaled bytes value }
@@ -88,7 +88,7 @@ fn is_scaled(bytes: u64, value: u64) -> bool
     value % bytes == 0 && value / bytes < 4096
 }
 
-// The sum of a register and a number, where an access has so many bytes: at most 5 instructions.
+// The sum of a register and a number, where an access has this many bytes: at most 5 instructions.
 fn put_indexed(register: u8, value: u64, bytes: u64, items: &mut Items<Item>) -> Base
     requires some { 0 < bytes }
     requires empty { items.old ≡ [] }
@@ -107,7 +107,7 @@ fn put_indexed(register: u8, value: u64, bytes: u64, items: &mut Items<Item>) ->
     at_register(LINK)
 }
 
-// The address that operands give, where an access has so many bytes: what computes it is appended, at most 5 instructions.
+// The address that operands give, where an access has this many bytes: what computes it is appended, at most 5 instructions.
 fn put_address(
     at: Addressing,
     first: Operand,
@@ -139,28 +139,28 @@ fn put_address(
     }
 }
 
-// The instruction that loads by a type.
+// Returns the instruction that loads by a type.
 fn load(t: ValueType, rd: u8, base: Base) -> Instr
     ensures { result ≡ Instr.Scaled (load_row t) rd base.register base.count }
 {
     scaled(load_row(t), rd, base.register, base.count)
 }
 
-// The instruction that stores by a type.
+// Returns the instruction that stores by a type.
 fn store(t: StoreType, from: u8, base: Base) -> Instr
     ensures { result ≡ Instr.Scaled (store_row t) from base.register base.count }
 {
     scaled(store_row(t), from, base.register, base.count)
 }
 
-// Whether the rows that count bytes hold a number: from -256 to 255.
+// Returns whether the rows that count bytes hold a number: from -256 to 255.
 fn is_close(value: u64) -> bool
     ensures { result ≡ is_close value }
 {
     value.wrapping_add(256) < 512
 }
 
-// The signed view of such a number.
+// Returns the signed view of such a number.
 fn close_number(value: u64) -> i32
     requires { is_close value ≡ true }
     ensures { result ≡ signed_view value }
@@ -172,7 +172,7 @@ fn close_number(value: u64) -> i32
     }
 }
 
-// Whether the row that counts bytes is taken for a number, where an access has so many bytes: for words alone.
+// Returns whether the row that counts bytes is taken for a number, where an access has this many bytes: for words alone.
 fn is_counted(bytes: u64, value: u64) -> bool
     requires { 0 < bytes }
     ensures { result ≡ is_counted bytes value }
@@ -180,7 +180,7 @@ fn is_counted(bytes: u64, value: u64) -> bool
     bytes == 8 && !is_scaled(bytes, value) && is_close(value)
 }
 
-// Whether it is taken for the address that operands give.
+// Returns whether it is taken for the address that operands give.
 fn is_unscaled(at: Addressing, first: Operand, second: Operand, bytes: u64) -> bool
     requires { 0 < bytes }
     ensures { result ≡ is_unscaled bytes (address_of at first second) }
@@ -194,7 +194,7 @@ fn is_unscaled(at: Addressing, first: Operand, second: Operand, bytes: u64) -> b
     }
 }
 
-// The row that loads or stores a word so many bytes behind a register.
+// Returns the row that loads or stores a word at this many bytes from a register.
 fn unscaled(op: UnscaledOp, rt: u8, rn: u8, value: u64) -> Instr
     requires { is_close value ≡ true }
     ensures { result ≡ Instr.Unscaled op rt rn (signed_view value) }
@@ -231,7 +231,7 @@ fn put_unscaled(
     }
 }
 
-// Whether a row of its own loads a word from the address that operands give.
+// Returns whether a row of its own loads a word from the address that operands give.
 fn is_word(at: Addressing, first: Operand, second: Operand, bytes: u64) -> bool
     requires { 0 < bytes }
     ensures { result ≡ is_word bytes (address_of at first second) }

@@ -82,7 +82,7 @@ pub fn put_argument(node: &Node, index: u32, items: &mut Items<Item>)
     }
 }
 
-// How far below FP the home of an argument is, in bytes. Its number is below 8.
+// Returns how far below FP the home of an argument is, in bytes. Its number is below 8.
 fn home_distance(index: u32) -> u16
     requires { index < 8 }
     ensures { result ≡ home_distance index }
@@ -90,7 +90,7 @@ fn home_distance(index: u32) -> u16
     (-home(Target::Aarch64, index)) as u16
 }
 
-// How many accesses above FP an argument is in the caller's stack words. Its number is from 8 to 15.
+// Returns how many accesses above FP an argument is in the caller's stack words. Its number is from 8 to 15.
 fn stack_count(t: ValueType, index: u32) -> u16
     requires above { 8 ≤ index }
     requires few { index < 16 }
@@ -133,7 +133,7 @@ fn put_argument_load(t: ValueType, rd: u8, index: u32, items: &mut Items<Item>)
 }
 
 /// Appends the code of a node that reads an argument of its function to no items: one or two instructions, or none where no function has
-/// so many arguments.
+/// this many arguments.
 pub fn put_getarg(node: &Node, t: ValueType, items: &mut Items<Item>)
     requires { items.old ≡ [] }
     ensures { items.new ≡ ones (argument_code t node.now) }

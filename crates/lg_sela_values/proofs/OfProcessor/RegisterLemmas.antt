@@ -1,4 +1,4 @@
--- The registers that stand for portable ones.
+-- The registers that correspond to portable ones.
 use Rattle.std.proofs.Common.{◌≢◌, ◌<◌, arith}
 use Rattle.lg_base.specs.declared.target.Target.TheVariants.{Aarch64}
 use Rattle.lg_op.specs.declared.operand.Reg.{Reg}

@@ -16,7 +16,7 @@ use Rattle.lg_carry.specs.Values.Computers.{Computer, IsComputer, ComputingNode}
 use Rattle.lg_sela_values.specs.Processor.A64Rows.{a64_rows}
 use Rattle.lg_sela_values.specs.Processor.Computations.{computes, computed_by}
 
--- behind a `prolog` the link, x30, holds nothing that is needed
+-- after a `prolog` the link, x30, holds nothing that is needed
 abbrev pub is_register : Option ℕ → ℕ → Bool
 is_register None x = false
 is_register (Some r) x = x == r

@@ -72,7 +72,7 @@ slot_offset k = negsuc (95 + 8 * k)
 abbrev pub can_save : ℕ → Bool
 can_save r = nat_lt r 31 && not (r == frame_pointer)
 
--- instructions of four bytes stand at multiples of four
+-- instructions of four bytes are at multiples of four
 abbrev pub a64_rows : List ℕ → ℕ → Rows (Run CpuState) Instr
 a64_rows code trash = record {
   processor = a64_processor code trash;

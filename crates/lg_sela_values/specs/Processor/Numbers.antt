@@ -14,7 +14,7 @@ use Rattle.lg_sela_values.specs.Processor.Computations.{holding, all_compute, co
 abbrev pub quarter_code : ℕ → ℕ → ℕ → List Instr
 quarter_code rd part hw = if part == 0 then [] else Wide Movk rd part hw ∷ []
 
--- the first instruction puts the lowest quarter, or the lowest that is not 0, and the others are put behind it
+-- the first instruction puts the lowest quarter, or the lowest that is not 0, and the others are put after it
 abbrev pub first_code : ℕ → ℕ → List Instr
 first_code rd v =
     Wide Movz rd (v % 2 ^ 16) 0

@@ -6,7 +6,7 @@ ghost use Rattle.lg_sela_values.specs.Processor.Destinations.{InstructionsStay};
 ghost use Rattle.lg_sela_values.specs.Processor.Numbers.{NumbersAreLoaded};
 ghost use Rattle.lg_sela_values.specs.Processor.Touches.{StepsLeave, StepsOverlook, StepsAreAlike, StatesArePatched};
 
-/// The instruction whose spelling stands at the program counter is executed, and the next one follows.
+/// The instruction whose spelling is at the program counter is executed, and the next one follows.
 pub fn instructions_are_rows()
     ensures { InstructionsAreRows }
 {}
@@ -21,7 +21,7 @@ pub fn instructions_stay()
     ensures { InstructionsStay }
 {}
 
-/// They are those of a target: each register that is tried can be saved, and the link holds nothing that is needed behind a `prolog`.
+/// They are those of a target: each register that is tried can be saved, and the link holds nothing that is needed after a `prolog`.
 pub fn instructions_are_isa()
     ensures { InstructionsAreIsa }
 {}
@@ -36,12 +36,12 @@ pub fn numbers_are_loaded()
     ensures { NumbersAreLoaded }
 {}
 
-/// A step that is no host function's goes in one way whatever stands where it touches nothing, and leaves that as it was.
+/// A step that is no host function's goes in one way whatever is where it touches nothing, and leaves that as it was.
 pub fn steps_leave()
     ensures { StepsLeave }
 {}
 
-/// So one that touches nothing below the stack pointer overlooks what stands there.
+/// So one that touches nothing below the stack pointer overlooks what is there.
 pub fn steps_overlook()
     ensures { StepsOverlook }
 {}

@@ -24,7 +24,7 @@ use Rattle.lg_selr.proofs.OfControl.StretchLemmas.{spelled-size}
 use Rattle.lg_selr.proofs.OfControl.StretchLemmas.{off-zero, all-passed, walked}
 use Rattle.lg_selr.proofs.OfControl.WordLemmas.{put-other}
 
--- behind them is a multiple
+-- after them is a multiple
 pub alignments-align : AlignmentsAlign
 alignments-align at n h even = idle-aligns no_op at n h even
 

@@ -56,7 +56,7 @@ leads-settled Short to at o a b l = refl
 leads-settled Near to at o a b l = refl
 leads-settled Far to at o a b l = refl
 
--- it stands behind two lists of instructions
+-- it is after two lists of instructions
 pub unless-settled : (r : Reach) (to : ℕ → ℕ) (at : ℕ) (xs ys : List Instr) (o : BranchOp) (a b : ℕ) (l : Label)
     → settled to at (ones xs ++ (ones ys ++ jump_unless_items r o a b l)) ≡ branch_behind r (xs ++ ys) o a b at (to l.0)
 unless-settled r to at xs ys o a b l =

@@ -257,7 +257,7 @@ module _ (r : Reach) (labels frame homes saved at : ℕ) where
   second-small (operand.Label l) = omega arith
   second-small (operand.Slot k) = omega arith
 
-  -- and other instructions stand between that and a branch over a jump
+  -- and other instructions are between that and a branch over a jump
   branched : (x : Operand) (body : List Instr) (o : BranchOp) (a b : ℕ) (l : Label) → IsGiven labels x → AreItems (ones body) → a < 32 → b < 32 → l.0 < labels
       → AreEmitted labels true (second_items x ++ (ones body ++ jump_unless_items r o a b l))
   branched x body o a b l v fit ha hb lt =

@@ -95,7 +95,7 @@ homes-others homes = take-all (λ r. not (r == 2)) (argument_registers Riscv64) 
 abbrev no-flags : Flags → Flags
 no-flags f = NoFlags
 
--- the stack is there whole behind stores too
+-- the stack is there whole after stores too
 stack-stored : (sp : ℕ) (rs : List ℕ) (k : ℕ) (q : Run CpuState) → HasStack q.state.bytes → HasStack (run_stored no-flags sp q rs k).state.bytes
 stack-stored sp [] k q there = there
 stack-stored sp (r ∷ rs) k q there =
@@ -123,7 +123,7 @@ pointer-above : (sp first : ℕ) → 104 ≤ first → first ≤ 2048 → 0x3FF0
     → add_words (sp - first) (word_of (pos (first - 16))) ≡ sp - 16
 pointer-above sp first least most low high = grind (arith, least, most, low, high)
 
--- the first fall, the stores and FP are so many instructions
+-- the first fall, the stores and FP are this many instructions
 abbrev framed_size : ℕ → ℕ → ℕ
 framed_size saved homes = suc (1 + length (first_registers saved) + length (home_registers homes))
 
@@ -145,7 +145,7 @@ module _ (code : List ℕ) (trash : ℕ) (small : length code ≤ most_code) (by
   abbrev places : List ℕ
   places = home_registers homes
 
-  -- FP, and what is left, behind the stores
+  -- FP, and what is left, after the stores
   abbrev last : List Instr
   last = instr.Imm Addi 8 2 (pos (first - 16)) ∷ rest
 
@@ -230,14 +230,14 @@ module _ (code : List ℕ) (trash : ℕ) (small : length code ≤ most_code) (by
   abbrev u : Run CpuState
   u = fall.end
 
-  -- the whole stack is there, before the stores and behind the first ones
+  -- the whole stack is there, before the stores and after the first ones
   there : HasStack q0.state.bytes
   there a e = seen.stack a e
 
   theref : HasStack qf.state.bytes
   theref = stack-stored sp firsts 0 q0 there
 
-  -- they lead to what is behind them
+  -- they lead to what is after them
   store-firsts : (is : List Instr) (v : Run CpuState) → Chain act acts_above is qf v → Chain act acts_above (stores_below (store_word first) firsts 0 ++ is) q0 v
   store-firsts is v rest =
       stored-chain act acts_above (store_word first) no-flags can-store 2 (sp - first) sp (store-act sp first low top even least most) (store-above sp first low top even least most) firsts 0
@@ -264,7 +264,7 @@ module _ (code : List ℕ) (trash : ℕ) (small : length code ≤ most_code) (by
       All-cons (StaysOutside (rv_rows code trash) false) (store_word first r k) (stores_below (store_word first) rs (suc k))
       (instructions-stay code trash false (store_word first r k) tt) (stores-still rs (suc k))
 
-  -- stores, and then what stands behind them
+  -- stores, and then what is after them
   along-stores : (rs : List ℕ) (k : ℕ) (is : List Instr) (p v : Run CpuState) → Chain act acts_above (stores_below (store_word first) rs k ++ []) p v
       → Along (does act) StackLowers is v → Along (does act) StackLowers (stores_below (store_word first) rs k ++ is) p
   along-stores rs k is p v c rest =

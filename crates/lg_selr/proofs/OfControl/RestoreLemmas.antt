@@ -1,4 +1,4 @@
--- The words of V0 to V2 that come back, of so many: what holds of none, one, two and three of them.
+-- The words of V0 to V2 that come back, of this many: what holds of none, one, two and three of them.
 use Rattle.std.proofs.Common.{◌≡◌, ℕ, zero, suc, List, [], ◌∷◌, refl, subst}
 use Rattle.std.specs.Prelude.{negsuc, take}
 use Rattle.lg_rv.specs.declared.instruction.Instr.{Instr}

@@ -69,7 +69,7 @@ load-act q rd by base address w offset at e even held =
     ap (λ x. load_at q rd (add_words x (word_of offset)) 8 false) at ∙ ap (λ x. load_at q rd x 8 false) e
     ∙ ap (λ b. if b then loads q rd 8 false (loaded q.bytes address 8) else faults q Align) (aligned-load address even) ∙ ap (loads q rd 8 false) held
 
--- the run behind instructions that return from a frame, which saves so many of V0 to V2: all but the last are straight, and none lets the stack pointer fall
+-- the run after instructions that return from a frame, which saves this many of V0 to V2: all but the last are straight, and none lets the stack pointer fall
 pub record Returns (code : List Instr) (q : Run CpuState) (sp kept back : ℕ) : Type 0 where
   pub end : Run CpuState
   pub chain : Chain act acts_above code q end
@@ -91,7 +91,7 @@ frame-above w rd base offset x y held leads over a le lt =
     not-below Riscv64 (w 2) a (inr (omega (arith, le, e, over)))
 
 -- ---- the words of V0 to V2, from a run in a frame
--- the run behind those that come back
+-- the run after those that come back
 record Restored (base n k fp count : ℕ) (q : Run CpuState) (is : List Instr) : Type 0 where
   end : Run CpuState
   front : (rest : List Instr) (u : Run CpuState) → Chain act (Raising act acts_above 2) rest end u → Chain act (Raising act acts_above 2) (is ++ rest) q u
@@ -151,7 +151,7 @@ module _ (base n k : ℕ) (q : Run CpuState) (frame sp : ℕ) (low : 0x3FF00010 
       a3 : suc (suc k) < n → RunsAt base n (suc (suc (suc k))) s3
       a3 three = next-at base n (suc (suc k)) s2 _ _ _ _ three a2
 
-  -- so many
+  -- this many
   restored : (saved : ℕ) → k + length (restores saved) ≤ n → Restored base n k (sp - 16) saved q (restores saved)
   restored =
       of-saved (λ count is. k + length is ≤ n → Restored base n k (sp - 16) count q is)
@@ -217,7 +217,7 @@ module _ (base n k : ℕ) (q : Run CpuState) (frame sp : ℕ) (low : 0x3FF00010 
       words-3 (suc (suc zero)) few = refl
       words-3 (suc (suc (suc j))) few = absurd (omega (arith, few))
 
--- ---- what leaves the frame behind them
+-- ---- what leaves the frame after them
 record Leaves (code : List Instr) (q : Run CpuState) (sp back : ℕ) : Type 0 where
   end : Run CpuState
   chain : Chain act (Raising act acts_above 2) code q end
@@ -248,7 +248,7 @@ module _ (base n k : ℕ) (q : Run CpuState) (frame sp back : ℕ) (low : 0x3FF0
   fp-even : fp % 8 ≡ 0
   fp-even = grind (arith, even, low)
 
-  -- the jump behind them
+  -- the jump after them
   abbrev left : Run CpuState → Run CpuState
   left s = after s (goes back (put s.state.registers 0 (add_words s.state.pc 4)) m q.state.mark)
 
@@ -415,7 +415,7 @@ return-short saved frame = by (nat_lt frame 2048)
         (record { some = omega arith; few = omega arith }) (record { some = omega arith; few = omega arith })
         (λ s. record { some = omega arith; few = omega arith }) saved
 
--- ---- what stands in front of it
+-- ---- what is in front of it
 no-change : (x : ℕ) → x < 2 ^ 64 → add_words x 0 ≡ x
 no-change x h = grind (arith, h)
 
@@ -430,7 +430,7 @@ address-made v small = by (nat_lt (v % 4096) 2048) refl
     by true h = grind (arith, small, h)
     by false h = grind (arith, small, h)
 
--- what stands there writes no stack pointer
+-- what is there writes no stack pointer
 result-within : (r : Returned) → Within (result_code r)
 result-within NoWord = tt
 result-within (OfRegister a) = (refl, tt)

@@ -23,7 +23,7 @@ use Rattle.lg_sel.proofs.OfControl.ChainLemmas.{RunsAt, next-at, Chain, chain-en
 use Rattle.lg_selr.proofs.OfControl.WordLemmas.{put-other, number-made}
 
 -- ---- the stack pointer falls
--- a run in which so many instructions made the stack pointer fall, and none let it rise
+-- a run in which this many instructions made the stack pointer fall, and none let it rise
 abbrev pub StackLowers : Instr → Run CpuState → Type 0
 StackLowers i r = (does act i r).state.registers 2 ≤ r.state.registers 2
 

@@ -1,4 +1,4 @@
--- Instructions of RV64 that stand in the code, and runs over them.
+-- Instructions of RV64 that are in the code, and runs over them.
 use Rattle.std.proofs.Common.{◌≡◌, ◌≢◌, ℕ, ◌+◌, ◌*◌, ◌^◌, ◌<◌, ◌≤◌, true, List, [], ◌∷◌, ◌++◌, Some, refl, sym, ap, ◌∙◌, arith, length, length-append, false}
 use Rattle.std.specs.Prelude.{◌==◌, ◌||◌, Bool, false}
 use Rattle.lg_carry.specs.Carries.{Sinks}
@@ -33,7 +33,7 @@ module _ (moves : Bool) (code : List ℕ) (trash : ℕ) (small : length code ≤
   rows : AreRows (rv_rows code trash) IsInstr
   rows = are-rows code trash small bytes word
 
-  -- instructions that stand in the code lie in the code part
+  -- instructions that are in the code lie in the code part
   pub stands-high : (from : ℕ) (x : Instr) (is : List Instr) → StandsAt (rv_rows code trash) moves IsInstr from (x ∷ is)
       → behind (rv_rows code trash) from (x ∷ is) ≤ code_base + most_code
   stands-high from x is k = let l = spelled-size (x ∷ is) in stretches.stands-high (rv_rows code trash) IsInstr rows moves from (x ∷ is) (omega (arith, l)) k

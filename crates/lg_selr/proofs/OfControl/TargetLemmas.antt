@@ -1,4 +1,4 @@
--- RV64IM is a target: what its code does wherever it stands.
+-- RV64IM is a target: what its code does wherever it is.
 use Rattle.std.proofs.Common.{ℕ, List, refl}
 use Rattle.lg_carry.specs.FinalNodes.{Code}
 use Rattle.lg_carry.specs.TextNodes.{HasPlaces}
@@ -31,6 +31,6 @@ is-target saved r code trash small bytes word = record {
   hosts = enters-hosts code trash small bytes word;
 }
 
--- an instruction may stand at each multiple of four
+-- an instruction may be at each multiple of four
 pub has-places : (code : List ℕ) (trash : ℕ) (c : Code) → HasPlaces 4 c → leaps.HasPlaces (rv_rows code trash) c
 has-places code trash c w = record { unit = 4; units = λ pc e. rw e refl; nodes = w }

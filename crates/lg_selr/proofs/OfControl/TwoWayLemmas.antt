@@ -1,4 +1,4 @@
--- A branch over a jump leads to two ways: behind itself, or where the jump leads.
+-- A branch over a jump leads to two ways: after itself, or where the jump leads.
 use Rattle.lg_carry.proofs.BlockLemmas.{no-width}
 use Rattle.std.proofs.Common.{◌≡◌, ◌≢◌, ℕ, ◌+◌, ◌*◌, ◌/◌, ◌^◌, ◌<◌, ◌≤◌, Bool, true, false, List, [], ◌∷◌, ◌++◌, Some, refl, sym, ap, ◌∙◌, subst, arith, length}
 use Rattle.std.proofs.Common.{length-append, append_assoc}
@@ -122,7 +122,7 @@ turned-taken Bge x y = sym (twice (is_less_signed x y))
 turned-taken Bltu x y = refl
 turned-taken Bgeu x y = sym (twice (is_less x y))
 
--- ---- the branch, where what stands before it computes
+-- ---- the branch, where what is before it computes
 module _ (code : List ℕ) (trash : ℕ) (small : length code ≤ most_code) (bytes : AreBytes code) (word : trash < 2 ^ 64)
     (front back : List Instr) (o : BranchOp) (a b from to : ℕ) (q : Run CpuState) (k : StandsAt (rv_rows code trash) false IsInstr from (front ++ back))
     (all : all_compute front ≡ true) (few : length front ≤ 60) (runs : status_of q.progress ≡ Running) (at : q.state.pc ≡ from) (goes-there : Bool)
@@ -180,7 +180,7 @@ module _ (code : List ℕ) (trash : ℕ) (small : length code ≤ most_code) (by
       (subst (λ z. PassesIn (rv_processor code trash) false from (behind (rv_rows code trash) from z) 1 u (after u (act x u.state))) (sym split)
       (one-passed false code trash small bytes word from f x g u (subst (StandsAt (rv_rows code trash) false IsInstr from) split k) going high' place)))
 
-  -- a branch over what follows leads behind it
+  -- a branch over what follows leads to the place after it
   skips : (d : ℕ) (rest : List Instr) → back ≡ instr.Branch o a b (pos d) ∷ rest → add_words r.state.pc d ≡ high → goes-there ≡ false
       → Way (rv_processor code trash) rv_scratch from high W high q
   skips d rest is to-high h =

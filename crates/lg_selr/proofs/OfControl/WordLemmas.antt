@@ -18,7 +18,7 @@ put-same w d v = grind arith
 pub put-other : (w : ℕ → ℕ) (d v x : ℕ) → x ≢ d → put w d v x ≡ w x
 put-other w d v x ne = grind (arith, ne)
 
--- so does one in two parts, of which the first is added to the address
+-- so does one in two parts, the first of which is added to the address
 far-sum : (b : Bool) (at to : ℕ) → at < 2 ^ 30 → to < 2 ^ 30 → nat_lt (word_of (pos to -ℤ pos at) % 4096) 2048 ≡ b
     → add_words (add_words at (sign_32 (high_part (word_of (pos to -ℤ pos at)) * 4096)))
     (word_of (if b then pos (word_of (pos to -ℤ pos at) % 4096) else negsuc (4095 - word_of (pos to -ℤ pos at) % 4096))) ≡ to

@@ -22,7 +22,7 @@ pub record IsByte (s : Seen) (sp fp x b : ℕ) : Type 0 where
   pub is : s.bytes x ≡ Some b
   pub small : b < 256
 
--- a place off the slots where a byte stands, and at or above the stack pointer
+-- a place off the slots where a byte is, and at or above the stack pointer
 pub record IsThere (s : Seen) (sp fp x : ℕ) : Type 0 where
   pub high : is_below Riscv64 sp x ≡ false
   pub off : in_slots fp x ≡ false

@@ -1,4 +1,4 @@
--- An instruction that loads or stores, and code behind code that computes.
+-- An instruction that loads or stores, and code after code that computes.
 use Rattle.std.specs.Prelude.{ℤ}
 use Rattle.lg_base.specs.Fields.{word_of}
 use Rattle.lg_base.specs.declared.target.Target.TheVariants.{Riscv64}
@@ -73,7 +73,7 @@ span-above w v base offset a n sp g low at safe =
 pub one-above : (sp x : ℕ) → is_below Riscv64 sp x ≡ false → LiesAbove Riscv64 sp x 1
 one-above sp x h j le lt = let e : x ≡ j = omega (arith, le, lt) in subst (λ y. is_below Riscv64 sp y ≡ false) e h
 
--- ---- behind instructions that compute
+-- ---- after instructions that compute
 pub flags-kept : (is : List Instr) (w : Held) → (computer.computed held_by is w).flags ≡ w.flags
 flags-kept [] w = refl
 flags-kept (i ∷ is) w = flags-kept is (held_by i w)

@@ -38,7 +38,7 @@ use Rattle.lg_selr_values.proofs.EmissionLemmas.{number_few}
 register-fine : (x : Operand) → Fine (register x)
 register-fine x = (register-small (named x), portable (named x))
 
--- good instructions, of which there are at most so many
+-- good instructions (at most this many)
 record IsFitCode (most : ℕ) (is : List Instr) : Type 0 where
   good : AreGood is
   few : length is ≤ most

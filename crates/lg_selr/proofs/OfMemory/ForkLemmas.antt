@@ -1,4 +1,4 @@
--- A test of the low bits of a base, and two ways behind it.
+-- A test of the low bits of a base, and two ways after it.
 use Rattle.lg_carry.proofs.BlockLemmas.{nothing-off}
 use Rattle.std.proofs.Common.{◌≡◌, ◌≢◌, ℕ, ◌+◌, ◌-◌, ◌*◌, ◌%◌, ◌≤◌, Bool, true, false, List, [], ◌∷◌, ◌++◌, Option, refl, sym, ap, ◌∙◌, arith, subst, length, length-append, append-nil, append_assoc, bit_and}
 use Rattle.std.specs.Prelude.{pos, ◌==◌, ◌&&◌, if◌then◌else◌}
@@ -149,7 +149,7 @@ module _ (code : List ℕ) (trash : ℕ) (rows : AreRows (rv_rows code trash) Is
   abbrev front : List Instr
   front = p.code ++ instr.Imm Andi test p.base (pos (width - 1)) ∷ []
 
-  -- the registers behind the test
+  -- the registers after the test
   abbrev pub tested : ℕ → ℕ
   tested = put mid test (bit_and (read mid p.base) (width - 1))
 

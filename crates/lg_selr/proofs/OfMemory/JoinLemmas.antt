@@ -8,7 +8,7 @@ use Rattle.lg_op.specs.declared.op.ValueType.{ValueType}
 use Rattle.lg_op.specs.declared.op.ValueType.TheVariants as value_type
 use Rattle.lg_op.specs.Operators.{width, extended_by_type}
 
--- a word, and behind it the k lowest bytes of v, from the highest of them on
+-- a word, and after it the k lowest bytes of v, from the highest of them on
 abbrev pub joined : ℕ → ℕ → ℕ → ℕ
 joined x v zero = x
 joined x v (suc k) = joined (add_words (shifted_left x 8) (byte_of v k)) v k
@@ -90,7 +90,7 @@ high_type value_type.Short = value_type.Char
 high_type value_type.Int = value_type.Char
 high_type t = value_type.UnsignedChar
 
--- behind the highest byte, so read, the others make the number that the type reads
+-- after the highest byte, so read, the others make the number that the type reads
 pub joined-typed : (t : ValueType) (v : ℕ) → v < 256 ^ width t → joined (extended_by_type (high_type t) (byte_of v (width t - 1))) v (width t - 1) ≡ extended_by_type t v
 joined-typed value_type.Char v h = ap (λ x. sign_part_of x 1) (let z : v / 256 ^ 0 % 256 ≡ v = omega (arith, h) in z)
 joined-typed value_type.UnsignedChar v h = let z : v / 256 ^ 0 % 256 % 2 ^ 8 ≡ v % 2 ^ 8 = omega (arith, h) in z

@@ -141,7 +141,7 @@ module _ (code : List ℕ) (trash : ℕ) (fp n : ℕ) (most : n ≤ 5) where
       })
       (λ q r bs y on. refl)
 
-  -- behind an instruction that does just so
+  -- after an instruction that does just so
   behind-load : (x : Instr) (s : Seen) (V W : ℕ → ℕ) (ys : List Instr) (T : ℕ → Bool) → Does (rv_rows code trash) (from_to s V s.bytes s.flags) (x ∷ []) fp 5 (λ r. false)
       → Goes (record s { registers = V }) W s.bytes ys T → Goes s W s.bytes (x ∷ ys) T
   behind-load x s V W ys T first second = in-a-row (rv_rows code trash) s V W s.bytes s.bytes s.flags s.flags (x ∷ []) ys fp n T most first second
@@ -159,7 +159,7 @@ module _ (code : List ℕ) (trash : ℕ) (fp n : ℕ) (most : n ≤ 5) where
       by true h = let z : y ≡ d = grind (arith, h) in ap w z ∙ e
       by false h = refl
 
-  -- the k lowest bytes, behind x in register d
+  -- the k lowest bytes, after x in register d
   lower-do : (k : ℕ) (s : Seen) (sp d u a x v : ℕ) (T : ℕ → Bool) → s.registers 2 ≡ sp → d ≢ 2 → u ≢ 2 → d ≢ 0 → d ≢ 1 → u ≢ 0 → u ≢ 1 → d ≢ u → T u ≡ true → s.registers 1 ≡ a → s.registers d ≡ x → a + k ≤ 2 ^ 64
       → ((j : ℕ) → j < k → IsByte s sp fp (a + j) (byte_of v j)) → Goes s (with_register s.registers d (joined x v k)) s.bytes (lower_bytes d u k) T
   lower-do zero s sp d u a x v T low d2 u2 d0 d1 u0 u1 du free at is end bytes = nothing-left s (with_register s.registers d x) T (λ y. with-self s.registers d x y is)

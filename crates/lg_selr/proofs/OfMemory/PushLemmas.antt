@@ -79,7 +79,7 @@ module _ (code : List ℕ) (trash : ℕ) (q : Run CpuState) (fp : ℕ) where
       (λ y free. held-at is h y (with_register w rd v y) (p.puts y)) (λ y off. refl) (flags-kept is h) (computations-do M (is-computer code trash) is s fp 0 (spoils rv_scratch []) p.computes)
 
   -- ---- into a stack word
-  -- instructions that compute the link alone, behind which a register holds the word
+  -- instructions that compute the link alone, after which a register holds the word
   record Prepares (pre : List Instr) (from v : ℕ) : Type 0 where
     computes : all_compute pre ≡ true
     keeps : (y : ℕ) → y ≢ 1 → computed pre w y ≡ w y

@@ -58,7 +58,7 @@ use Rattle.lg_selr.proofs.OfMemory.EndLemmas.{access-keeps, access-does, behind-
 use Rattle.lg_selr.proofs.OfMemory.LoadLemmas.{IsFor, some-behind, no-temporary, row-block}
 use Rattle.lg_selr.proofs.OfMemory.PlaceLemmas.{IsPlaced, off-scratch, masked, store-width, placed, whole-even, frame-whole, read-some}
 
--- a byte, and those behind it
+-- a byte, and those after it
 joined-stores : (m : ℕ → Option ℕ) (a k v b : ℕ) → b ≡ a + 1 → stored (stored m a 1 v) b k (v / 256) ≡ stored m a (suc k) v
 joined-stores m a k v b e = ap (λ f. stored f b k (v / 256)) (stored-step m a 1 (a + 1) 0 v refl refl ∙ stored-none _ (a + 1) 0 (v / 256) refl) ∙ sym (stored-step m a (suc k) b k v e refl)
 
@@ -172,7 +172,7 @@ module _ (code : List ℕ) (trash : ℕ) (fp n : ℕ) (most : n ≤ 5) where
   still-there : (s : Seen) (sp y v x : ℕ) → IsThere s sp fp x → IsThere (record s { bytes = stored s.bytes y 1 v }) sp fp x
   still-there s sp y v x h = record { high = h.high; off = h.off; there = stored-there s.bytes y 1 v x h.there }
 
-  -- the k bytes of a register's word behind its lowest one, from byte m on
+  -- the k bytes of a register's word after its lowest one, from byte m on
   higher-do : (k : ℕ) (s : Seen) (sp from u a m x : ℕ) (T : ℕ → Bool) → s.registers 2 ≡ sp → u ≢ 2 → u ≢ 0 → u ≢ 1 → T u ≡ true → s.registers 1 ≡ a → read s.registers from ≡ x → a + m + k ≤ 2 ^ 64
       → ((j : ℕ) → j < k → IsThere s sp fp (a + (m + j))) → Goes s s.registers (stored s.bytes (a + m) k (x / 256)) (higher_bytes from u m k) T
   higher-do zero s sp from u a m x T low u2 u0 u1 free at is end there = nothing-left s (stored s.bytes (a + m) zero (x / 256)) T (λ y. ap (λ f. f y) (sym (stored-none s.bytes (a + m) zero (x / 256) refl)))

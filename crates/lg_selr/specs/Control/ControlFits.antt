@@ -10,7 +10,7 @@ use Rattle.lg_selr_values.specs.declared.items.Item.{Item}
 use Rattle.lg_selr_values.specs.Items.{rv_holes, IsItem, NamesOneOf, StayWithin}
 use Rattle.lg_selr.specs.Control.ControlItems.{control_items}
 
--- the items can be appended to a buffer with so many labels, and where the node leaps there are some
+-- the items can be appended to a buffer with this many labels, and where the node transfers control there are some
 abbrev pub AreEmitted : ℕ → Bool → List Item → Type 0
 AreEmitted count leaping xs = good_items.AreEmitted rv_holes IsItem NamesOneOf count leaping xs
 

@@ -69,7 +69,7 @@ sum_items r o (operand.Label l ∷ operand.Reg a ∷ x ∷ []) =
 sum_items r o xs = []
 
 -- ---- jumps, calls and returns
--- a jump to a label that puts the address behind it into a register, by way of another one where it is far
+-- a jump to a label that puts the address after it into a register, by way of another one where it is far
 abbrev pub label_items : Reach → ℕ → ℕ → Label → List Item
 label_items Far rd base l = FarJump rd base l.0 ∷ []
 label_items r rd base l = Jump rd l.0 ∷ []
@@ -93,7 +93,7 @@ abbrev pub ret_items : ℕ → ℕ → List Operand → List Item
 ret_items frame saved (x ∷ []) = result_items x ++ ones (return_code saved frame)
 ret_items frame saved xs = []
 
--- a jump to the word of a register, which puts the address behind it into another
+-- a jump to the word of a register, which puts the address after it into another
 abbrev pub register_leap_items : ℕ → List Operand → List Item
 register_leap_items rd (operand.Reg a ∷ []) = ones (register_leap_code rd a)
 register_leap_items rd xs = []
@@ -120,7 +120,7 @@ plain_items plain.Ret xs frame homes saved at = ones (return_code saved frame)
 plain_items plain.Align xs frame homes saved at = align_items at xs
 plain_items o xs frame homes saved at = []
 
--- ---- of a node in a function with a frame of so many bytes and so many homes that are read, which saves so many of V0 to V2, whose code begins at an
+-- ---- of a node in a function with a frame of this many bytes and this many homes that are read, which saves this many of V0 to V2, whose code begins at an
 -- address, or a place of the buffer, and has a reach
 abbrev pub control_items : Reach → Op → List Operand → ℕ → ℕ → ℕ → ℕ → List Item
 control_items r (op.Branch o last) xs frame homes saved at = branch_items r o xs

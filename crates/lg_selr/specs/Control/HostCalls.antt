@@ -1,5 +1,5 @@
--- `calli` and `finishi` of a host function: the address of its entry is put into the link, and the jump there links. The host function goes on behind
--- the node.
+-- `calli` and `finishi` of a host function: the address of its entry is put into the link, and the jump there links. The host function continues after the
+-- node.
 use Rattle.std.specs.Prelude.{ℕ, Bool, true, List, [], ◌∷◌}
 use Rattle.lg_base.specs.HostNames.{host_address}
 use Rattle.lg_base.specs.declared.host_name.HostName.{HostName}

@@ -1,5 +1,5 @@
 -- `ret`, `retr`, `reti` and `epilog`: those of V0, V1 and V2 of the caller that the code saves, the return address and the caller's frame pointer come back
--- from the frame, the stack pointer rises to that of the caller, and the run goes on behind the call. Each word is loaded before the stack pointer rises
+-- from the frame, the stack pointer rises to that of the caller, and the run continues after the call. Each word is loaded before the stack pointer rises
 -- above it.
 use Rattle.std.specs.Prelude.{ℕ, nat_lt, if◌then◌else◌, pos, negsuc, List, [], ◌∷◌, ◌++◌, take}
 use Rattle.lg_base.specs.declared.target.Target.TheVariants.{Riscv64}
@@ -11,11 +11,11 @@ use Rattle.lg_temp.specs.Abis.{register_of}
 use Rattle.lg_selr_values.specs.Processor.Numbers.{number_code, high_part, low_part}
 use Rattle.lg_sel.specs.Control.Returns.{Returned, NoWord, OfRegister, OfNumber, OfLabel}
 
--- x8 is FP, x1 the link, x2 the stack pointer; x9, x18 and x19 stand for V0, V1 and V2, of which so many come back
+-- x8 is FP, x1 the link, x2 the stack pointer; x9, x18 and x19 correspond to V0, V1 and V2, this many of which come back
 abbrev pub restores : ℕ → List Instr
 restores saved = take saved (instr.Imm Ld 9 8 (negsuc 7) ∷ instr.Imm Ld 18 8 (negsuc 15) ∷ instr.Imm Ld 19 8 (negsuc 23) ∷ [])
 
--- behind them, where the size of the frame is a number of 12 bits
+-- after them, where the size of the frame is a number of 12 bits
 abbrev pub near_return : ℕ → List Instr
 near_return frame =
     instr.Imm Ld 1 8 (pos 8) ∷ instr.Imm Ld 8 8 (pos 0) ∷ instr.Imm Addi 2 2 (pos frame) ∷ instr.Imm Jalr 0 1 (pos 0) ∷ []

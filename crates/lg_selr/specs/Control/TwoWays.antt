@@ -25,7 +25,7 @@ leads_unless Short o a b at to = instr.Branch (turned o) a b (pos to -ℤ pos at
 leads_unless Near o a b at to = instr.Branch o a b (pos 8) ∷ instr.Jal 0 (pos to -ℤ pos (at + 4)) ∷ []
 leads_unless Far o a b at to = instr.Branch o a b (pos 12) ∷ far_jump 0 31 (at + 4) to
 
--- front stands before it
+-- front is before it
 abbrev pub branch_behind : Reach → List Instr → BranchOp → ℕ → ℕ → ℕ → ℕ → List Instr
 branch_behind r front o a b from to = front ++ leads_unless r o a b (from + 4 * length front) to
 

@@ -36,7 +36,7 @@ use Rattle.lg_selr_values.specs.Items.{ones}
 use Rattle.lg_carry.specs.Values.Parts.{first_taken}
 use Rattle.lg_selr_values.specs.ValueItems.{saved_items}
 
--- the link holds nothing that is needed behind a `prolog`, so it takes addresses
+-- the link holds nothing that is needed after a `prolog`, so it takes addresses
 abbrev pub link : ℕ
 link = 1
 
@@ -73,7 +73,7 @@ at_register a = record { code = []; base = a; offset = pos 0 }
 abbrev pub at_link : List Instr → Place
 at_link code = record { code = code; base = link; offset = pos 0 }
 
--- whether an address is known to be a multiple of so many bytes: FP is one of 16, and a number is what it is
+-- whether an address is known to be a multiple of this many bytes: FP is one of 16, and a number is what it is
 abbrev pub is_frame : Reg → Bool
 is_frame Fp = true
 is_frame r = false
@@ -98,19 +98,19 @@ is_low w v = nat_lt v 0x7FFFF800 && (v % w == 0)
 abbrev pub absolute : ℕ → ℕ → Place
 absolute w v = if is_low w v then record { code = instr.Upper Lui link (high_part v) ∷ []; base = link; offset = low_part v } else at_link (number_code link v)
 
--- an address of so many bytes
+-- an address of this many bytes
 abbrev pub place_of : ℕ → Address → Place
 place_of w (Base a) = at_register (register_of Riscv64 a)
 place_of w (At v) = absolute w v
 place_of w (Sum a b) = at_link (instr.Reg reg.Add link (register_of Riscv64 a) (register_of Riscv64 b) ∷ [])
 place_of w (Index a v) = indexed w (register_of Riscv64 a) v
 
--- the k lowest bytes at the link's address, from the highest of them on, each behind those that d has; u is a temporary
+-- the k lowest bytes at the link's address, from the highest of them on, each after those that d has; u is a temporary
 abbrev pub lower_bytes : ℕ → ℕ → ℕ → List Instr
 lower_bytes d u zero = []
 lower_bytes d u (suc k) = instr.Shift shift.Slli d d 8 ∷ instr.Imm imm.Lbu u link (pos k) ∷ instr.Reg reg.Add d d u ∷ lower_bytes d u k
 
--- the k bytes from byte n on at the link's address become those of a register behind its lowest one
+-- the k bytes from byte n on at the link's address become those of a register after its lowest one
 abbrev pub higher_bytes : ℕ → ℕ → ℕ → ℕ → List Instr
 higher_bytes from u n zero = []
 higher_bytes from u n (suc k) = instr.Shift shift.Srli u from 8 ∷ instr.Store row.Sb link u (pos n) ∷ higher_bytes u u (n + 1) k
@@ -119,7 +119,7 @@ higher_bytes from u n (suc k) = instr.Shift shift.Srli u from 8 ∷ instr.Store 
 abbrev pub tester : ℕ → ℕ → ℕ
 tester u base = if base == 1 then u else link
 
--- the test of those of an access so wide: where they are 0, a branch leads so many bytes further
+-- the test of those of an access so wide: where they are 0, a branch leads this many bytes further
 abbrev pub test_code : ℕ → ℕ → ℕ → ℤ → List Instr
 test_code u base w skip = instr.Imm imm.Andi (tester u base) base (pos (w - 1)) ∷ instr.Branch branch.Beq (tester u base) 0 skip ∷ []
 
@@ -127,7 +127,7 @@ test_code u base w skip = instr.Imm imm.Andi (tester u base) base (pos (w - 1)) 
 abbrev pub fork : ℕ → ℕ → ℕ → ℕ → List Instr → Instr → List Instr
 fork u base w skip slow fast = test_code u base w (pos skip) ++ (slow ++ (instr.Branch branch.Beq 0 0 (pos 8) ∷ fast ∷ []))
 
--- d = what stands at a register and an offset, byte by byte
+-- d = what is at a register and an offset, byte by byte
 abbrev pub slow_load : ValueType → ℕ → ℕ → ℕ → ℤ → List Instr
 slow_load t d u base offset = instr.Imm imm.Addi link base offset ∷ instr.Imm (high_row t) d link (pos (width t - 1)) ∷ lower_bytes d u (width t - 1)
 
@@ -161,7 +161,7 @@ store_bytes t v u = instr.Store row.Sb link v (pos 0) ∷ higher_bytes v u 1 (st
 abbrev pub slow_store : StoreType → ℕ → ℕ → ℕ → ℤ → List Instr
 slow_store t v u base offset = instr.Imm imm.Addi link base offset ∷ store_bytes t v u
 
--- a branch over these leads so many bytes further
+-- a branch over these leads this many bytes further
 abbrev pub store_skip : StoreType → ℕ
 store_skip store_type.Char = 16
 store_skip store_type.Short = 24

@@ -33,7 +33,7 @@ use Rattle.lg_temp.specs.Choices.{AreFor}
 use Rattle.lg_temp.specs.Chosen.{around}
 use Rattle.lg_temp.specs.declared.choice.Choice.{Choice}
 
--- a node of this operation that names no label is carried by its code, with the choices for an access of so many bytes, whatever is live and staged
+-- a node of this operation that names no label is carried by its code, with the choices for an access of this many bytes, whatever is live and staged
 abbrev pub AccessesCarry : List ℕ → ℕ → Op → ℕ → (Node → ℕ → List Instr) → Type 0
 AccessesCarry code trash o bytes code_of =
     (c : Code) (i : ℕ) (n : Node) (frame : ℕ) (live : Reg → Bool) (staged : List Bool) (choices : List Choice) → n.op ≡ o → names_label n ≡ false → HasWords n

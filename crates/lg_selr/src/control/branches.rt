@@ -11,7 +11,7 @@ use lg_rv::{BranchOp, RegOp};
 use lg_sel::{Items, Reach};
 use lg_selr_values::{CARRY, Item, LINK, ZERO, branch, register_of, row};
 
-// The branch that is taken where a condition fails.
+// Returns the branch that is taken where a condition fails.
 fn failing(condition: Condition) -> BranchOp
     ensures { result ≡ failing condition }
 {
@@ -25,7 +25,7 @@ fn failing(condition: Condition) -> BranchOp
     }
 }
 
-// The first register that it compares.
+// Returns the first register that it compares.
 fn left_of(condition: Condition, a: u8, b: u8) -> u8
     ensures { result ≡ left_of condition a b }
 {
@@ -36,7 +36,7 @@ fn left_of(condition: Condition, a: u8, b: u8) -> u8
     }
 }
 
-// The second one.
+// Returns the second one.
 fn right_of(condition: Condition, a: u8, b: u8) -> u8
     ensures { result ≡ right_of condition a b }
 {
@@ -60,7 +60,7 @@ fn put_bits(condition: Condition, a: u8, b: u8, items: &mut Items<Item>)
     }
 }
 
-// The branch that is taken where another one is not.
+// Returns the branch that is taken where another one is not.
 fn turned(op: BranchOp) -> BranchOp
     ensures { result ≡ turned op }
 {

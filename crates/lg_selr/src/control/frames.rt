@@ -27,7 +27,7 @@ const V1: u8 = 18;
 
 const V2: u8 = 19;
 
-// A word of the frame is stored by the stack pointer, which has fallen by so many bytes.
+// A word of the frame is stored by the stack pointer, which has fallen by this many bytes.
 fn store(first: u32, reg: u8, word: u32) -> Instr
     requires large { 104 ≤ first }
     requires small { first ≤ 2048 }
@@ -124,7 +124,7 @@ fn put_fall(size: u32, items: &mut Items<Item>)
     }
 }
 
-// Appends the stores of a `prolog` with so many homes, which saves so many of V0 to V2.
+// Appends the stores of a `prolog` with this many homes, which saves this many of V0 to V2.
 #[tactic(auto, using(lg_selr_values::proofs::ItemLemmas::words_append))]
 fn put_stores(first: u32, homes: u32, saved: u32, items: &mut Items<Item>)
     requires room { words_in items.old ≤ 50 }
@@ -138,7 +138,7 @@ fn put_stores(first: u32, homes: u32, saved: u32, items: &mut Items<Item>)
     items.all(&home_stores(first)[..homes.min(8) as usize]);
 }
 
-// Appends the fall of the stack pointer by so much of a frame, its words, with so many of V0 to V2 and so many homes, and FP to none.
+// Appends the fall of the stack pointer by this much of a frame, its words, with this many of V0 to V2 and this many homes, and FP to none.
 #[tactic(auto, using(lg_selr_values::proofs::ItemLemmas::words_append))]
 fn put_words(first: u32, homes: u32, saved: u32, items: &mut Items<Item>)
     requires empty { items.old ≡ [] }
@@ -157,7 +157,7 @@ fn put_words(first: u32, homes: u32, saved: u32, items: &mut Items<Item>)
     ));
 }
 
-// Appends the code of a `prolog` with so many homes, which saves so many of V0 to V2, to none.
+// Appends the code of a `prolog` with this many homes, which saves this many of V0 to V2, to none.
 #[tactic(auto, using(lg_selr_values::proofs::ItemLemmas::words_append))]
 fn put_prolog(size: u32, homes: u32, saved: u32, items: &mut Items<Item>)
     requires empty { items.old ≡ [] }
@@ -184,7 +184,7 @@ fn restores() -> [Instr; 3]
     ]
 }
 
-// What a return does behind them in a frame whose size is a number of 12 bits.
+// What a return does after them in a frame whose size is a number of 12 bits.
 fn near_return(size: u32) -> [Instr; 4]
     requires { size < 2048 }
     ensures { result ≡ near_return size }
@@ -210,7 +210,7 @@ fn far_return() -> [Instr; 5]
     ]
 }
 
-// Appends what comes back of V0 to V2, of so many.
+// Appends what comes back of V0 to V2, of this many.
 #[tactic(auto, using(lg_selr_values::proofs::ItemLemmas::words_append))]
 fn put_restores(saved: u32, items: &mut Items<Item>)
     requires { words_in items.old ≤ 50 }
@@ -220,7 +220,7 @@ fn put_restores(saved: u32, items: &mut Items<Item>)
     items.all(&restores()[..saved.min(3) as usize]);
 }
 
-// Appends what leaves a frame of so many bytes.
+// Appends what leaves a frame of this many bytes.
 fn put_leaving(frame: u32, items: &mut Items<Item>)
     requires { words_in items.old ≤ 53 }
     ensures { items.new ≡ items.old ++ ones (leaving_code frame) }
@@ -232,7 +232,7 @@ fn put_leaving(frame: u32, items: &mut Items<Item>)
     }
 }
 
-// Appends a return from a frame of so many bytes, which saves so many of V0 to V2.
+// Appends a return from a frame of this many bytes, which saves this many of V0 to V2.
 pub(crate) fn put_return(frame: u32, saved: u32, items: &mut Items<Item>)
     requires { words_in items.old ≤ 50 }
     ensures { items.new ≡ items.old ++ ones (return_code saved frame) }

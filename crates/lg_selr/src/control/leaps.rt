@@ -13,7 +13,7 @@ use lg_rv::{ImmOp, Instr, UpperOp};
 use lg_sel::{Items, Reach};
 use lg_selr_values::{CARRY, Item, LINK, ZERO, high_part, imm, low_part, register_of};
 
-// The call of a host function: the address of its entry goes into the link, and the jump there links.
+// Returns the call of a host function: the address of its entry goes into the link, and the jump there links.
 fn host_code(name: HostName) -> [Instr; 2]
     ensures { result ≡ host_code name }
 {
@@ -26,7 +26,7 @@ fn host_code(name: HostName) -> [Instr; 2]
     [lui, imm(ImmOp::Jalr, LINK, LINK, low_part(entry))]
 }
 
-// Appends a jump to a label to none, which puts the address behind it into rd, by way of base where it is far.
+// Appends a jump to a label to none, which puts the address after it into rd, by way of base where it is far.
 fn put_label(reach: Reach, rd: u8, base: u8, label: Label, items: &mut Items<Item>)
     requires { items.old ≡ [] }
     ensures { items.new ≡ label_items reach rd base label }
@@ -61,7 +61,7 @@ fn put_call(reach: Reach, operands: &[Operand], items: &mut Items<Item>)
     }
 }
 
-// Appends the items of `jmpr`, `callr` and `finishr` to none: a jump to the word of a register, which puts the address behind it into rd.
+// Appends the items of `jmpr`, `callr` and `finishr` to none: a jump to the word of a register, which puts the address after it into rd.
 fn put_register_leap(rd: u8, operands: &[Operand], items: &mut Items<Item>)
     requires { items.old ≡ [] }
     ensures { items.new ≡ register_leap_items rd operands.now }

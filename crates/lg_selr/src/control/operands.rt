@@ -9,7 +9,7 @@ use lg_op::Operand;
 use lg_sel::Items;
 use lg_selr_values::{Item, LINK, ZERO, put_number, register_of};
 
-// The register in which an operand is once `put_second` has put it there: x0 for the number 0.
+// Returns the register in which an operand is once `put_second` has put it there: x0 for the number 0.
 pub(crate) fn second_register(operand: Operand) -> u8
     ensures { result ≡ second_register operand }
 {
@@ -20,7 +20,7 @@ pub(crate) fn second_register(operand: Operand) -> u8
     }
 }
 
-// Puts a word that stands for itself into a register, which is not x0.
+// Puts a word that denotes itself into a register, which is not x0.
 #[tactic(auto, using(lg_selr_values::proofs::EmissionLemmas::number_few, lg_selr_values::proofs::EmissionLemmas::number_words))]
 pub(crate) fn put_word(rd: u8, operand: Operand, items: &mut Items<Item>)
     requires empty { items.old ≡ [] }

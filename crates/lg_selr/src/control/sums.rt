@@ -12,7 +12,7 @@ use lg_rv::{BranchOp, ImmOp, Instr, RegOp};
 use lg_sel::{Items, Reach};
 use lg_selr_values::{CARRY, Item, LINK, ZERO, imm, register_of, row};
 
-// Adds, and x31 tells whether the signed sum does not fit.
+// Adds, and x31 says whether the signed sum does not fit.
 fn signed_sum(a: u8, b: u8) -> [Instr; 5]
     ensures { result ≡ signed_sum_code a b }
 {
@@ -25,7 +25,7 @@ fn signed_sum(a: u8, b: u8) -> [Instr; 5]
     ]
 }
 
-// Subtracts, and x31 tells whether the signed difference does not fit.
+// Subtracts, and x31 says whether the signed difference does not fit.
 fn signed_difference(a: u8, b: u8) -> [Instr; 5]
     ensures { result ≡ signed_difference_code a b }
 {
@@ -38,7 +38,7 @@ fn signed_difference(a: u8, b: u8) -> [Instr; 5]
     ]
 }
 
-// Adds, and x31 tells whether the unsigned sum does not fit.
+// Adds, and x31 says whether the unsigned sum does not fit.
 fn unsigned_sum(a: u8, b: u8) -> [Instr; 3]
     ensures { result ≡ unsigned_sum_code a b }
 {
@@ -49,7 +49,7 @@ fn unsigned_sum(a: u8, b: u8) -> [Instr; 3]
     ]
 }
 
-// Subtracts, and x31 tells whether the unsigned difference does not fit.
+// Subtracts, and x31 says whether the unsigned difference does not fit.
 fn unsigned_difference(a: u8, b: u8) -> [Instr; 2]
     ensures { result ≡ unsigned_difference_code a b }
 {
@@ -71,7 +71,7 @@ fn put_sum(op: BranchSumOp, a: u8, b: u8, items: &mut Items<Item>)
     }
 }
 
-// The branch on x31 and x0 that is taken where the node does not go to its label.
+// Returns the branch on x31 and x0 that is taken where the node does not go to its label.
 fn staying(op: BranchSumOp) -> BranchOp
     ensures { result ≡ staying op }
 {

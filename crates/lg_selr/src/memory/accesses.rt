@@ -25,7 +25,7 @@ struct Base {
     offset: i32,
 }
 
-// The row that loads by a type, at a multiple of its width.
+// Returns the row that loads by a type, at a multiple of its width.
 pub(crate) fn load_row(t: ValueType) -> ImmOp
     ensures { result ≡ load_row t }
 {
@@ -40,7 +40,7 @@ pub(crate) fn load_row(t: ValueType) -> ImmOp
     }
 }
 
-// The row that loads the highest byte by a type.
+// Returns the row that loads the highest byte by a type.
 fn high_row(t: ValueType) -> ImmOp
     ensures { result ≡ high_row t }
 {
@@ -50,7 +50,7 @@ fn high_row(t: ValueType) -> ImmOp
     }
 }
 
-// The row that stores by a type, at a multiple of its width.
+// Returns the row that stores by a type, at a multiple of its width.
 fn store_row(t: StoreType) -> StoreOp
     ensures { result ≡ store_row t }
 {
@@ -74,7 +74,7 @@ fn store(op: StoreOp, from: u8, register: u8, offset: i32) -> Instr
     }
 }
 
-// The instruction that stores the low byte of a register.
+// Returns the instruction that stores the low byte of a register.
 fn store_byte(from: u8, register: u8, offset: i32) -> Instr
     ensures { result ≡ Instr.Store (StoreOp.Sb) register from offset }
 {
@@ -97,7 +97,7 @@ fn at_register(register: u8) -> Base
     }
 }
 
-// Whether a register is FP.
+// Returns whether a register is FP.
 fn is_frame(reg: Reg) -> bool
     ensures { result ≡ is_frame reg }
 {
@@ -107,7 +107,7 @@ fn is_frame(reg: Reg) -> bool
     }
 }
 
-// Whether the address that operands give is known to be a multiple of so many bytes.
+// Returns whether the address that operands give is known to be a multiple of this many bytes.
 fn is_whole(width: u32, at: Addressing, first: Operand, second: Operand) -> bool
     requires { 0 < width }
     ensures { result ≡ is_whole width (address_of at first second) }
@@ -196,8 +196,8 @@ fn put_address(
     }
 }
 
-// Appends the code that puts the `count` lowest bytes at the link's address, from the highest of them on, each behind those that `d` has, where
-// `u` is a temporary: 3 instructions for each, for which there is room.
+// Appends the code that puts the `count` lowest bytes at the link's address, from the highest of them on, each after those that `d` has, where `u` is a
+// temporary: 3 instructions for each, for which there is room.
 fn lower_bytes(d: u8, u: u8, count: u32, items: &mut Items<Item>)
     requires few { count ≤ 7 }
     requires room { words_in items.old + 3 * count ≤ 64 }
@@ -214,8 +214,8 @@ fn lower_bytes(d: u8, u: u8, count: u32, items: &mut Items<Item>)
     }
 }
 
-// Appends the code that makes those bytes of a register's word behind its lowest one the `count` bytes from byte `place` on at the link's
-// address, where `u` is a temporary: 2 instructions for each, for which there is room.
+// Appends the code that makes those bytes of a register's word after its lowest one the `count` bytes from byte `place` on at the link's address, where `u`
+// is a temporary: 2 instructions for each, for which there is room.
 fn higher_bytes(from: u8, u: u8, place: u32, count: u32, items: &mut Items<Item>)
     requires few { place + count ≤ 8 }
     requires room { words_in items.old + 2 * count ≤ 64 }
@@ -230,14 +230,14 @@ fn higher_bytes(from: u8, u: u8, place: u32, count: u32, items: &mut Items<Item>
     }
 }
 
-// The register of a test of a base, where `u` is a temporary.
+// Returns the register of a test of a base, where `u` is a temporary.
 fn tester(u: u8, base: u8) -> u8
     ensures { result ≡ tester u base }
 {
     if base == LINK { u } else { LINK }
 }
 
-// Appends the test of the low bits of a base, and the branch that leads so many bytes further where they are 0.
+// Appends the test of the low bits of a base, and the branch that leads this many bytes further where they are 0.
 fn put_test(u: u8, base: u8, width: u32, skip: i32, items: &mut Items<Item>)
     requires some { 0 < width }
     requires few { width ≤ 8 }
@@ -322,7 +322,7 @@ fn store_bytes(t: StoreType, from: u8, u: u8, items: &mut Items<Item>)
     }
 }
 
-// How many bytes a branch over these leads further.
+// Returns how many bytes a branch over these leads further.
 fn store_skip(t: StoreType) -> i32
     ensures { result ≡ pos (store_skip t) }
 {

@@ -79,7 +79,7 @@ pub fn put_argument(node: &Node, index: u32, items: &mut Items<Item>)
     }
 }
 
-// How far an argument is from FP, in bytes. Its number is below 16.
+// Returns how far an argument is from FP, in bytes. Its number is below 16.
 fn argument_offset(index: u32) -> i32
     requires { index < 16 }
     ensures { result ≡ argument_offset index }

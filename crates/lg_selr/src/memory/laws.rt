@@ -3,7 +3,7 @@
 ghost use Rattle.lg_selr.specs.Memory.MemoryNodes.{MemoryIsCarried};
 ghost use Rattle.lg_selr.specs.Memory.MemoryFits.{MemoryItemsFit, MemoryItemsName, MemoryItemsStay};
 
-/// Loads, stores and nodes that read and pass arguments, the next variable one too, are carried, whatever is live behind them.
+/// Loads, stores and nodes that read and pass arguments, the next variable one too, are carried, whatever is live after them.
 pub fn memory_nodes_are_carried()
     ensures { MemoryIsCarried }
 {}

@@ -47,7 +47,7 @@ flags-computed : (is : List Instr) (w : Held) → (computer.computed held_by is 
 flags-computed [] w = refl
 flags-computed (i ∷ is) w = flags-computed is (held_by i w)
 
--- a register behind them
+-- a register after them
 pub held-at : (is : List Instr) (w : Held) (r v : ℕ) → computed is w.registers r ≡ v → (computer.computed held_by is w).registers r ≡ v
 held-at is w r v e = ap (λ u. u r) (registers-computed is w) ∙ e
 

@@ -88,7 +88,7 @@ spans-above n v small h = tt
 spans-half : (v : ℕ) → v < 2 ^ 64 → Spans zero v → is_half v ≡ true
 spans-half v small h = grind (arith, small, h)
 
--- the low bits behind it make the number
+-- the low bits after it make the number
 whole-made : (v : ℕ) → v < 2 ^ 64 → (v % 4096 == 0) ≡ true → shifted_left (above v) 12 ≡ v
 whole-made v small even = by (nat_lt (add_words v 2048) (2 ^ 63))
   where
@@ -275,7 +275,7 @@ module _ (rd : ℕ) (some : rd ≢ 0) where
         any = omega arith;
       }
 
-  -- the low bits behind what is above them
+  -- the low bits after what is above them
   low-loads : (v : ℕ) → v < 2 ^ 64 → (all_compute (low_code rd v) ≡ true) × ((w : ℕ → ℕ) → computed (low_code rd v) (put w rd (above v)) ≡ put w rd v)
   low-loads v small = by (v % 4096 == 0) refl
     where

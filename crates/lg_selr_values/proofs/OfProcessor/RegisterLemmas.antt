@@ -1,4 +1,4 @@
--- The registers of RV64IM that stand for portable ones.
+-- The registers of RV64IM that correspond to portable ones.
 use Rattle.std.proofs.Common.{◌≡◌, ◌≢◌, ℕ, ◌<◌, refl, arith}
 use Rattle.lg_base.specs.declared.target.Target.TheVariants.{Riscv64}
 use Rattle.lg_op.specs.declared.operand.Reg.{Reg}

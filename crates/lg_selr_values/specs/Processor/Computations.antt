@@ -65,7 +65,7 @@ abbrev pub computed : List Instr → (ℕ → ℕ) → ℕ → ℕ
 computed [] w = w
 computed (i ∷ is) w = computed is (computed_by i w)
 
--- a list of them goes through from a run, and leaves its registers so; all else stays, and the program counter is behind them
+-- a list of them goes through from a run, and leaves its registers so; all else stays, and the program counter is after them
 pub record RunsComputations (is : List Instr) (q : Run CpuState) : Type 0 where
   pub through : GoesThrough rv_does (λ (r : Run CpuState). status_of r.progress) rv_above is q
   pub runs : status_of (done rv_does is q).progress ≡ Running

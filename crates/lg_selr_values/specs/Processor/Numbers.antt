@@ -39,7 +39,7 @@ above v = let sum = add_words v 2048 in if nat_lt sum (2 ^ 63) then sum / 4096 e
 abbrev pub low_code : ℕ → ℕ → List Instr
 low_code rd v = if v % 4096 == 0 then Shift Slli rd rd 12 ∷ [] else Shift Slli rd rd 12 ∷ Imm Addi rd rd (low_part v) ∷ []
 
--- a number of 12 or 32 bits, or what is above the low 12 bits, so n times, and these behind it
+-- a number of 12 or 32 bits, or what is above the low 12 bits, so n times, and these after it
 abbrev pub wide_code : ℕ → ℕ → ℕ → List Instr
 wide_code zero rd v = half_code rd v
 wide_code (suc n) rd v = if is_short v then short_code rd v else if is_half v then half_code rd v else wide_code n rd (above v) ++ low_code rd v

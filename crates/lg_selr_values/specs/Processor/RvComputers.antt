@@ -14,7 +14,7 @@ use Rattle.lg_carry.specs.Values.Computers.{Held, Computer, IsComputer, Computin
 use Rattle.lg_selr_values.specs.Processor.Computations.{computes, computed_by}
 use Rattle.lg_selr_values.specs.Processor.RvRows.{rv_rows}
 
--- behind a `prolog` the link, x1, holds nothing that is needed, and x0 never does
+-- after a `prolog` the link, x1, holds nothing that is needed, and x0 never does
 abbrev pub rv_scratch : ℕ → Bool
 rv_scratch x = (x == 0) || (x == 1)
 

@@ -50,7 +50,7 @@ slot_offset k = negsuc (95 + 8 * k)
 abbrev pub can_save : ℕ → Bool
 can_save r = nat_lt r 32 && (not (r == 0) && not (r == 8))
 
--- instructions of four bytes stand at multiples of four
+-- instructions of four bytes are at multiples of four
 abbrev pub rv_rows : List ℕ → ℕ → Rows (Run CpuState) Instr
 rv_rows code trash = record {
   processor = rv_processor code trash;

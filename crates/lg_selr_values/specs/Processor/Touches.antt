@@ -15,7 +15,7 @@ StepsLeave =
     (code : List ℕ) (trash : ℕ) (q : Run CpuState) (hidden : ℕ → Bool) → AreBytes code → trash < 2 ^ 64 → q.state.pc < 2 ^ 64
     → host_by_address q.state.pc ≡ None → IsOff hidden (touched_at code q.state.pc q.state.registers) → LeavesAlone (rv_processor code trash) hidden q
 
--- and one that touches nothing below the stack pointer overlooks what stands there
+-- and one that touches nothing below the stack pointer overlooks what is there
 abbrev pub StepsOverlook : Type 0
 StepsOverlook =
     (code : List ℕ) (trash : ℕ) (q : Run CpuState) → AreBytes code → trash < 2 ^ 64 → q.state.pc < 2 ^ 64 → host_by_address q.state.pc ≡ None

@@ -7,7 +7,7 @@ ghost use Rattle.lg_selr_values.specs.Processor.RvComputers.{InstructionsAreIsa,
 ghost use Rattle.lg_selr_values.specs.Processor.RvRows.{InstructionsAreRows, InstructionsAreSpills};
 ghost use Rattle.lg_selr_values.specs.Processor.Touches.{StepsLeave, StepsOverlook, StepsAreAlike, StatesArePatched};
 
-/// The instruction whose spelling stands at the program counter is executed, and the next one follows.
+/// The instruction whose spelling is at the program counter is executed, and the next one follows.
 pub fn instructions_are_rows()
     ensures { InstructionsAreRows }
 {}
@@ -22,7 +22,7 @@ pub fn instructions_stay()
     ensures { InstructionsStay }
 {}
 
-/// They are those of a target: each register that is tried can be saved, and x0 and the link hold nothing that is needed behind a `prolog`.
+/// They are those of a target: each register that is tried can be saved, and x0 and the link hold nothing that is needed after a `prolog`.
 pub fn instructions_are_isa()
     ensures { InstructionsAreIsa }
 {}
@@ -42,12 +42,12 @@ pub fn numbers_are_loaded()
     ensures { NumbersAreLoaded }
 {}
 
-/// A step that is no host function's goes in one way whatever stands where it touches nothing, and leaves that as it was.
+/// A step that is no host function's goes in one way whatever is where it touches nothing, and leaves that as it was.
 pub fn steps_leave()
     ensures { StepsLeave }
 {}
 
-/// So one that touches nothing below the stack pointer overlooks what stands there.
+/// So one that touches nothing below the stack pointer overlooks what is there.
 pub fn steps_overlook()
     ensures { StepsOverlook }
 {}

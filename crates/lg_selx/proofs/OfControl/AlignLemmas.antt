@@ -38,7 +38,7 @@ padded at n h =
     (λ r. ⊎_elim (λ e. subst (Leads at) (sym e) (grind arith, grind arith))
     (λ e. subst (Leads at) (sym e) (grind arith, grind arith)) r) r) r) r) r) (one-of n h)
 
--- behind them is a multiple
+-- after them is a multiple
 pub alignments-align : AlignmentsAlign
 alignments-align at n h = ap (λ k. (at + k) % n) (idle-bytes (padding at n)) ∙ (padded at n h).0
 

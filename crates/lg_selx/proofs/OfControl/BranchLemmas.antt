@@ -24,7 +24,7 @@ pub branches-lead : (r : Reach) (code : List ℕ) (trash : ℕ) → length code 
 branches-lead r code trash small bytes word frame o a b x y from to q f k there next runs at ea eb near =
     let words : x < 2 ^ 64 = subst (λ z. z < 2 ^ 64) ea (f.seen.words (register_of X86_64 a)) in
     let spare = framed frame (x86_seen q) f in
-    -- it tells so where there is no memory too
+    -- it says so where there is no memory too
     let bare = branch-tells o frame x y a (scene q.state.registers q.state.flags (λ n. None)) spare ea words near b eb in
     two-ways code trash small bytes word r (before_branch frame o a b) (taken o) from to q k runs at (holds o x y) there next q.state.registers
     (branch-tells o frame x y a (scene_of q.state) spare ea words near b eb)

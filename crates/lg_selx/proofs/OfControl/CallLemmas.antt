@@ -1,4 +1,4 @@
--- Calls on x86-64 push the address behind them.
+-- Calls on x86-64 push the address after them.
 use Rattle.std.proofs.Common.{◌≡◌, ◌≢◌, ℕ, zero, suc, ◌+◌, ◌-◌, ◌^◌, ◌<◌, ◌≤◌, ◌⊎◌, true, false, List, [], ◌∷◌, ◌++◌, Some, None, refl, sym, ap, ◌∙◌, subst, arith, length}
 use Rattle.std.specs.List.{list_all}
 use Rattle.std.specs.Prelude.{pos, ◌-ℤ◌, slice_index, if◌then◌else◌}
@@ -69,7 +69,7 @@ pushed s sp to back at low high there =
     ap (λ x. goes_with s to Memory (if mapped s.bytes x 8 then Some (scene (put s.registers 4 x) s.flags (stored s.bytes x 8 back)) else None)) lower
     ∙ ap (λ b. goes_with s to Memory (if b then Some (scene (put s.registers 4 (sp - 8)) s.flags (stored s.bytes (sp - 8) 8 back)) else None)) there
 
--- ---- it arrives, behind code that changes no register but rax and r11, and no byte
+-- ---- it arrives, after code that changes no register but rax and r11, and no byte
 module _ (code : List ℕ) (trash : ℕ) (small : length code ≤ most_code) (bytes : AreBytes code) (word : trash < 2 ^ 64)
     (from to frame : ℕ) (front : List Instr) (x : Instr) (W : ℕ → ℕ) (q : Run CpuState) (f : HasFrame X86_64 frame (x86_seen q))
     (k : StandsAt (x86_rows code trash) true IsInstr from (front ++ (x ∷ []))) (made : makes front (scene_of q.state) ≡ Some (scene W q.state.flags q.state.bytes))

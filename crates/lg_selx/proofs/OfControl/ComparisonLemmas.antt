@@ -44,7 +44,7 @@ pub record Tells (front : List Instr) (c : Cond) (W : ℕ → ℕ) (goes : Bool)
   pub few : length front ≤ 60
 
 -- ---- the flags
--- what they tell of two words
+-- what the flags say of two words
 compared : (o : Condition) (f : Flags) (x y : ℕ) → x < 2 ^ 64 → y < 2 ^ 64 → x86.condition_holds (taken o) (alu_flags (comparison o) f x y 0) ≡ Some (holds o x y)
 compared condition.Lt f x y h k = less-tells x y h k
 compared condition.LtU f x y h k = below-tells x y h k
@@ -59,7 +59,7 @@ compared condition.Ne f x y h k = not-equal-tells x y h k
 compared condition.Ms f x y h k = refl
 compared condition.Mc f x y h k = refl
 
--- and what they tell of bits
+-- and what the flags say of bits
 tested : (o : Condition) → is_difference o ≡ false → (x y : ℕ) → x86.condition_holds (taken o) (bit_flags (bit_and x y)) ≡ Some (holds o x y)
 tested condition.Ms d x y = refl
 tested condition.Mc d x y = refl
@@ -82,7 +82,7 @@ module _ (o : Condition) (frame a v : ℕ) (s : Scene) (small : v < 2 ^ 64) (fra
   abbrev w : ℕ → ℕ
   w = s.registers
 
-  -- what the flags tell of a number
+  -- what the flags say of a number
   abbrev TellsOf : List Instr → Type 0
   TellsOf front = Tells front (taken o) w (holds o (w a) v) s
 

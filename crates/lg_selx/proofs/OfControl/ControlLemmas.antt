@@ -59,7 +59,7 @@ jump-settled Short to at c l = refl
 jump-settled Near to at c l = refl
 jump-settled Far to at c l = refl
 
--- a jump behind instructions
+-- a jump after instructions
 pub branch-settled : (r : Reach) (to : ℕ → ℕ) (at : ℕ) (front : List Instr) (c : Cond) (l : Label) → settled to at (branch_if_items r front c l) ≡ branch_if r front c at (to l.0)
 branch-settled r to at front c l =
     let last : List Item = Jump (jump_kind r c) l.0 ∷ [] in
@@ -101,7 +101,7 @@ module _ (r : Reach) (saved : ℕ) (to : ℕ → ℕ) (frame homes at : ℕ) whe
   register-calls (operand.Reg a ∷ []) = settled-ones to at (register_call_code frame a)
   register-calls xs = refl
 
-  -- a return behind items that become this code
+  -- a return after items that become this code
   returns-behind : (xs : List Item) (is : List Instr) → settled to at xs ≡ is → settled to at (xs ++ ones (return_code saved)) ≡ is ++ return_code saved
   returns-behind xs is e =
       settled-append to at xs (ones (return_code saved)) ∙ ap (λ z. z ++ settled to (at + length (blanks xs)) (ones (return_code saved))) e

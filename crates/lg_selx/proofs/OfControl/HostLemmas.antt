@@ -32,7 +32,7 @@ at-entry stack low high whole = grind (arith, low, high, whole)
 pops : (stack : ℕ) → stack_base + 8 ≤ stack → stack ≤ stack_end → add_words (stack - 8) 8 ≡ stack
 pops stack low high = grind (arith, low, high)
 
--- ---- the registers behind a call
+-- ---- the registers after a call
 no-result : (x : ℕ) → is_kept X86_64 x ≡ true → x ≢ 0
 no-result x k = λ z. absurd (differ (subst (λ y. is_kept X86_64 y ≡ true) z k))
   where

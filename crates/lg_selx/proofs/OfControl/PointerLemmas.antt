@@ -9,7 +9,7 @@ use Rattle.lg_op.specs.declared.op.Condition.TheVariants as condition
 use Rattle.lg_op.specs.Operators.{holds}
 use Rattle.lg_selx.specs.Control.Branches.{is_difference, far_number}
 
--- ---- the number that stands for one of more than 32 bits
+-- ---- the number that corresponds to one of more than 32 bits
 abbrev pub far : ℕ → ℕ
 far v = if nat_lt v (2 ^ 63) then 0x7FFFFFFF else 2 ^ 64 - 2 ^ 31
 

@@ -93,7 +93,7 @@ module _ (sp : ℕ) (low : 0x3FF00010 + 272 ≤ sp) (high : sp ≤ 0x40000000) w
       (stores-above rs (suc k) rest w f (stored m (word_below sp k) 8 (w r)) (omega (arith, some)) (omega (arith, few)) at top
       (λ j e. stored-there m (word_below sp k) 8 (w r) j (there j e)) h)
 
--- the stack is there behind stores too
+-- the stack is there after stores too
 stores-there : (sp : ℕ) (rs : List ℕ) (k : ℕ) (w : ℕ → ℕ) (m : ℕ → Option ℕ) → HasStack m → HasStack (with_stored m w sp rs k)
 stores-there sp [] k w m there = there
 stores-there sp (r ∷ rs) k w m there =

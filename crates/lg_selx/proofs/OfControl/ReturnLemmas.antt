@@ -147,7 +147,7 @@ module _ (w : ℕ → ℕ) (f : Flags) (m : ℕ → Option ℕ) (sp : ℕ) (low 
       above-first (load d v) rest (scene u f m) (scene (put u d (word_at m (saved_word fp v))) f m) (one-made u d v lt at)
       (load-above u (saved_word fp v) (negsuc (7 + 8 * v)) address (omega (arith, size, lt))) h
 
-  -- what loads of so many make, in front of others: the registers of the result and the frame stay, and none lies further below the stack pointer than the
+  -- what loads of this many make, in front of others: the registers of the result and the frame stay, and none lies further below the stack pointer than the
   -- zone
   record Loads (is : List Instr) (count : ℕ) : Type 0 where
     registers : ℕ → ℕ

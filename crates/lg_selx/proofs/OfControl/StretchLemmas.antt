@@ -1,4 +1,4 @@
--- Instructions of x86-64 that stand in the code, and runs over them.
+-- Instructions of x86-64 that are in the code, and runs over them.
 use Rattle.std.proofs.Common.{◌≡◌, ℕ, ◌+◌, ◌^◌, ◌<◌, ◌≤◌, List, [], ◌∷◌, ◌++◌, Some, sym, ap, ◌∙◌, subst, arith, length, append-nil, length-append, false, Bool}
 use Rattle.std.specs.List.{All}
 use Rattle.std.proofs.lemmas.List.Elements.{All-nil, All-cons}
@@ -27,7 +27,7 @@ use Rattle.lg_carry.specs.Nodes.Stretches.{StandsAt, behind, PassesIn}
 use Rattle.lg_carry.proofs.OfNodes.StretchLemmas.{spelled-append, part-passes, passages-join, part-run}
 use Rattle.lg_sel.proofs.OfControl.StretchLemmas as stretches
 
--- how many bytes an instruction has behind others
+-- how many bytes an instruction has after others
 pub spelled-behind : (front : List Instr) (x : Instr)
     → length (spellings spelling (front ++ (x ∷ []))) ≡ length (spellings spelling front) + length (spelling x)
 spelled-behind front x =
@@ -55,12 +55,12 @@ module _ (moves : Bool) (code : List ℕ) (trash : ℕ) (small : length code ≤
   rows : AreRows (x86_rows code trash) IsInstr
   rows = are-rows code trash small bytes word
 
-  -- instructions that stand in the code lie in the code part
+  -- instructions that are in the code lie in the code part
   pub stands-high : (from : ℕ) (is : List Instr) → 0 < length (spellings spelling is) → StandsAt (x86_rows code trash) moves IsInstr from is
       → behind (x86_rows code trash) from is ≤ code_base + most_code
   stands-high from is some k = stretches.stands-high (x86_rows code trash) IsInstr rows moves from is some k
 
-  -- ---- instructions that make a scene, and one behind them
+  -- ---- instructions that make a scene, and one after them
   module _ (from : ℕ) (front : List Instr) (x : Instr) (q : Run CpuState) (t : Scene) (k : StandsAt (x86_rows code trash) moves IsInstr from (front ++ (x ∷ [])))
       (made : makes front (scene_of q.state) ≡ Some t) (runs : status_of q.progress ≡ Running) (at : q.state.pc ≡ from) where
     abbrev pub front_high : ℕ

@@ -25,7 +25,7 @@ pub sum-branches-lead : (r : Reach) (code : List ℕ) (trash : ℕ) → length c
 sum-branches-lead r code trash small bytes word frame o a b x y from to q f k there next runs at some ea hx eb hy =
     let W : ℕ → ℕ = with_register q.state.registers (register_of X86_64 a) (branch_sum_value o x y) in
     let spare = framed frame (x86_seen q) f in
-    -- it tells so where there is no memory too
+    -- it says so where there is no memory too
     let bare = sum-tells o frame x y a (scene q.state.registers q.state.flags (λ n. None)) spare ea some hy b eb in
     two-ways code trash small bytes word r (before_sum_branch frame o a b) (sum_taken o) from to q k runs at (branch_sum_goes o x y) there next W
     (sum-tells o frame x y a (scene_of q.state) spare ea some hy b eb)

@@ -32,7 +32,7 @@ use Rattle.lg_selx.proofs.OfControl.ComparisonLemmas.{Tells}
 use Rattle.lg_selx.proofs.OfControl.SpareLemmas.{IsFramed, pointer-behind}
 
 -- ---- one row
--- the flags tell whether the exact result fits
+-- the flags say whether the exact result fits
 summed : (o : BranchSumOp) (f : Flags) (x y : ℕ) → x86.condition_holds (sum_taken o) (alu_flags (sum_row o) f x y 0) ≡ Some (branch_sum_goes o x y)
 summed sum.OverflowAdd f x y = refl
 summed sum.OverflowAddU f x y = refl

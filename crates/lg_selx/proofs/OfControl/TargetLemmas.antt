@@ -1,4 +1,4 @@
--- x86-64 is a target: what its code does wherever it stands.
+-- x86-64 is a target: what its code does wherever it is.
 use Rattle.std.proofs.Common.{ℕ, List, refl}
 use Rattle.lg_carry.specs.FinalNodes.{Code}
 use Rattle.lg_carry.specs.TextNodes.{HasPlaces}
@@ -32,6 +32,6 @@ is-target r saved code trash small bytes word = record {
   hosts = enters-hosts code trash small bytes word;
 }
 
--- an instruction may stand anywhere
+-- an instruction may be anywhere
 pub has-places : (code : List ℕ) (trash : ℕ) (c : Code) → HasPlaces 1 c → leaps.HasPlaces (x86_rows code trash) c
 has-places code trash c w = record { unit = 1; units = λ pc e. refl; nodes = w }

@@ -1,4 +1,4 @@
--- A jump on a condition leads to two ways: to its label, or behind itself.
+-- A jump on a condition leads to two ways: to its label, or after itself.
 use Rattle.std.proofs.Common.{◌≡◌, ℕ, ◌+◌, ◌^◌, ◌<◌, ◌≤◌, Bool, true, false, List, Some, refl, sym, ap, ◌∙◌, subst, arith, length}
 use Rattle.std.specs.List.{list_all}
 use Rattle.std.specs.Prelude.{pos, ◌-ℤ◌, if◌then◌else◌}
@@ -53,7 +53,7 @@ jump-still Short c at to = refl
 jump-still Near c at to = refl
 jump-still Far c at to = refl
 
--- the jump, where what stands before it tells whether it is taken
+-- the jump, where what is before it says whether it is taken
 module _ (code : List ℕ) (trash : ℕ) (small : length code ≤ most_code) (bytes : AreBytes code) (word : trash < 2 ^ 64)
     (r : Reach) (front : List Instr) (c : Cond) (from to : ℕ) (q : Run CpuState) (k : StandsAt (x86_rows code trash) false IsInstr from (branch_if r front c from to))
     (runs : status_of q.progress ≡ Running) (at : q.state.pc ≡ from) (goes-there : Bool) (there : goes-there ≡ true → IsThere (x86_rows code trash).is_place to)

@@ -29,7 +29,7 @@ use Rattle.lg_selx.specs.Control.Jumps.{jump_code}
 use Rattle.lg_selx.specs.Control.RegisterLeaps.{register_jump_code}
 use Rattle.lg_selx.proofs.OfControl.StretchLemmas.{front_state, front-top, front-passed}
 
--- so many bytes lead from an address to another
+-- this many bytes lead from an address to another
 distance-leads : (from to : ℕ) → from < 2 ^ 62 → to < 2 ^ 62 → add_words from (word_of (pos to -ℤ pos from)) ≡ to
 distance-leads from to h k = grind (arith, ints, h, k)
 

@@ -1,4 +1,4 @@
--- Code that makes a scene, whatever stands in the slots.
+-- Code that makes a scene, whatever is in the slots.
 use Rattle.std.proofs.Common.{◌≡◌, ℕ, ◌<◌, Bool, true, false, List, [], ◌∷◌, ◌++◌, Option, Some, refl, sym, ap, ◌∙◌, subst, arith, length, length-append}
 use Rattle.std.specs.Prelude.{ℤ}
 use Rattle.lg_base.specs.Fields.{word_of}

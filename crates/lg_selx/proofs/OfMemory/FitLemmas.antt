@@ -69,7 +69,7 @@ load-spare-fine d at h = by (indexes d at)
     by true = (omega arith, refl)
     by false = h
 
--- good instructions, of which there are at most so many
+-- good instructions (at most this many)
 record IsFitCode (most : ℕ) (is : List Instr) : Type 0 where
   good : AreGood is
   few : length is ≤ most
@@ -217,7 +217,7 @@ next-fits rd rs d s =
     }
 
 -- ---- items
--- good ones, of which there are at most so many instructions and so many fixes
+-- good ones (at most this many instructions and this many fixes)
 abbrev AreFit : ℕ → ℕ → List Item → Type 0
 AreFit most fixes xs = AreBounded x86_holes IsGoodItem most fixes xs
 

@@ -20,7 +20,7 @@ use Rattle.lg_selx_values.proofs.RegisterLemmas.{put-same, put-other, put-twice,
 use Rattle.lg_selx.proofs.OfControl.SpareLemmas.{IsFramed, pointer-behind}
 use Rattle.lg_selx.specs.Memory.Accesses.{Place, at_register, at_spare, place_of, remade, behind, indexes, load_spare}
 
--- the code puts a word into register t alone, behind which the place has this address; where the place does not use t, that is its own word
+-- the code puts a word into register t alone, after which the place has this address; where the place does not use t, that is its own word
 pub record IsPlaced (t : ℕ) (p : Place) (w : ℕ → ℕ) (a : ℕ) : Type 0 where
   pub word : ℕ
   pub makes_it : (f : Flags) (m : ℕ → Option ℕ) → makes p.code (scene w f m) ≡ Some (scene (put w t word) f m)
@@ -61,7 +61,7 @@ module _ (t : ℕ) (w : ℕ → ℕ) where
   number-made : (v : ℕ) → t < 16 → v < 2 ^ 64 → (f : Flags) (m : ℕ → Option ℕ) → makes (number_row t v ∷ []) (scene w f m) ≡ Some (scene (put w t v) f m)
   number-made v few small f m = ap (option_and_then (makes [])) ((row-loads t v few small).value (scene w f m))
 
-  -- a sum with a register, behind its number
+  -- a sum with a register, after its number
   sum-made : (a v : ℕ) → t < 16 → v < 2 ^ 64 → a ≢ t → (f : Flags) (m : ℕ → Option ℕ)
       → makes (number_row t v ∷ (instr.Lea2 t t a ∷ [])) (scene w f m) ≡ Some (scene (put w t (add_words (w a) v)) f m)
   sum-made a v few small ne f m =
@@ -105,7 +105,7 @@ load-spare d at few ne = by (indexes d at) refl
     by true e = record { few = omega arith; free = off-pointer d at ne e; which = inl refl }
     by false e = record { few = few; free = e; which = inr refl }
 
--- ---- what is behind
+-- ---- what is after
 module _ (frame : ℕ) (w : ℕ → ℕ) (f : Flags) (m : ℕ → Option ℕ) (framed : IsFramed frame w) where
   -- another register keeps what it got meanwhile
   module _ (d x : ℕ) (off5 : d ≢ 5) (off4 : d ≢ 4) where
@@ -123,7 +123,7 @@ module _ (frame : ℕ) (w : ℕ → ℕ) (f : Flags) (m : ℕ → Option ℕ) (f
     spare-kept t v (inl e) = subst (λ z. makes (remade frame z) (scene (put (put w z v) d x) f m) ≡ Some (scene (put w d x) f m)) (sym e) (pointer-kept v)
     spare-kept t v (inr e) = subst (λ z. makes (remade frame z) (scene (put (put w z v) d x) f m) ≡ Some (scene (put w d x) f m)) (sym e) (own-behind v)
 
-    -- behind a load
+    -- after a load
     pub loaded-behind : (t a : ℕ) (p : Place) (h : IsPlaced t p w a) → (t ≡ 5) ⊎ (t ≡ d)
         → makes (behind frame p) (scene (put (put w t h.word) d x) f m) ≡ Some (scene (put w d x) f m)
     loaded-behind t a p h which = by h.spared

@@ -46,7 +46,7 @@ side-home k few = let e : shifted_right_signed (add_words k (word_of (negsuc 5))
 side-stack : (k : ℕ) → k < 16 → 6 ≤ k → side k ≡ 1
 side-stack k few more = let e : shifted_right_signed (add_words k (word_of (negsuc 5))) 63 ≡ 0 = grind (arith, few, more) in ap (λ x. bit_or x 1) e
 
--- so many words from 32 bytes below FP, on this side of there
+-- this many words from 32 bytes below FP, on this side of there
 abbrev reached : ℕ → ℕ → ℕ → ℕ
 reached x k fp = add_words (add_words (shifted_left (mul_words x k) 3) fp) (word_of (negsuc 31))
 

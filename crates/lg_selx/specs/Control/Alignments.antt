@@ -22,6 +22,6 @@ idle k = paddings.idle no_op k
 abbrev pub align_code : ℕ → ℕ → List Instr
 align_code at n = idle (padding at n)
 
--- behind them is a multiple
+-- after them is a multiple
 abbrev pub AlignmentsAlign : Type 0
 AlignmentsAlign = (at n : ℕ) → is_alignment n ≡ true → (at + length (spellings spelling (align_code at n))) % n ≡ 0

@@ -68,7 +68,7 @@ abbrev pub word_comparison : Condition → ℕ → ℕ → Option ℕ → List I
 word_comparison o frame a None = []
 word_comparison o frame a (Some v) = number_comparison o frame a v
 
--- what stands before the jump of a branch
+-- what is before the jump of a branch
 abbrev pub before_branch : ℕ → Condition → Reg → Operand → List Instr
 before_branch frame o a (operand.Reg b) = instr.RmReg (comparison o) (register_of X86_64 a) (register_of X86_64 b) ∷ []
 before_branch frame o a x = word_comparison o frame (register_of X86_64 a) (immediate x)

@@ -1,4 +1,4 @@
--- `calli` and `finishi` of a label: a call of the place of its `prolog`, which pushes the address behind it.
+-- `calli` and `finishi` of a label: a call of the place of its `prolog`, which pushes the address after it.
 use Rattle.std.specs.Prelude.{ℕ, ◌+◌, pos, ◌-ℤ◌, List, [], ◌∷◌}
 use Rattle.lg_x86.specs.declared.instruction.JumpNearOp.TheVariants.{Call32}
 use Rattle.lg_x86.specs.declared.instruction.Instr.{Instr}

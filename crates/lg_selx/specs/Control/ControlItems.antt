@@ -41,7 +41,7 @@ use Rattle.lg_selx.specs.Control.Returns.{result, return_code}
 use Rattle.lg_selx.specs.Control.SumBranches.{before_sum_branch, sum_taken}
 
 -- ---- branches
--- a jump to a label where the condition holds, behind code that sets the flags
+-- a jump to a label where the condition holds, after code that sets the flags
 abbrev pub jump_kind : Reach → Cond → JumpKind
 jump_kind Short holds = ShortIf holds
 jump_kind r holds = NearIf holds
@@ -82,7 +82,7 @@ result_items (operand.Reg a) = One (instr.RmReg Mov result (register_of X86_64 a
 result_items (operand.Label l) = Address result l.0 ∷ []
 result_items x = word_items (immediate x)
 
--- where frames save so many of V0, V1 and V2
+-- where frames save this many of V0, V1 and V2
 abbrev pub ret_items : ℕ → List Operand → List Item
 ret_items saved (x ∷ []) = result_items x ++ ones (return_code saved)
 ret_items saved xs = []
@@ -118,8 +118,8 @@ plain_items plain.Ret xs frame homes saved at = ones (return_code saved)
 plain_items plain.Align xs frame homes saved at = align_items at xs
 plain_items o xs frame homes saved at = []
 
--- ---- of a node in a function with a frame of so many bytes and so many homes that are read, where frames save so many of V0, V1 and V2, whose code begins
--- at an address, or a place of the buffer, and has a reach
+-- ---- of a node in a function with a frame of this many bytes and this many homes that are read, where frames save this many of V0, V1 and V2, whose code
+-- begins at an address, or a place of the buffer, and has a reach
 abbrev pub control_items : Reach → Op → List Operand → ℕ → ℕ → ℕ → ℕ → List Item
 control_items r (op.Branch o last) xs frame homes saved at = branch_items r frame o xs
 control_items r (op.BranchSum o last) xs frame homes saved at = sum_items r frame o xs

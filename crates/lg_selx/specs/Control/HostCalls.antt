@@ -1,4 +1,4 @@
--- `calli` and `finishi` of a host function: the address of its entry is put into r11, 11, and called. The host function goes on behind the node.
+-- `calli` and `finishi` of a host function: the address of its entry is put into r11, 11, and called. The host function continues after the node.
 use Rattle.std.specs.Prelude.{ℕ, Bool, List, ◌∷◌}
 use Rattle.lg_base.specs.HostNames.{host_address}
 use Rattle.lg_base.specs.declared.host_name.HostName.{HostName}

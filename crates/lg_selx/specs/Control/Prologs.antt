@@ -9,7 +9,7 @@ use Rattle.lg_x86.specs.declared.instruction.StoreOp.TheVariants.{St64}
 use Rattle.lg_sel.specs.Control.Stores.{kept_registers, home_registers}
 use Rattle.lg_sel.specs.Control.Stores as stores
 
--- a register is stored by FP in word k below the caller's stack pointer, of which word 1 is that at FP
+-- a register is stored by FP in word k below the caller's stack pointer; word 1 is that at FP
 abbrev pub store_word : ℕ → ℕ → Instr
 store_word r k = instr.Store St64 5 (negsuc (8 * k - 9)) r
 
@@ -17,18 +17,18 @@ store_word r k = instr.Store St64 5 (negsuc (8 * k - 9)) r
 abbrev pub stores_below : List ℕ → ℕ → List Instr
 stores_below rs k = stores.stores_below store_word rs k
 
--- so many of V0, V1 and V2 are stored from word 2 on, and so many homes from word 5 on
+-- this many of V0, V1 and V2 are stored from word 2 on, and this many homes from word 5 on
 abbrev pub stored_code : ℕ → ℕ → List Instr
 stored_code saved homes = stores_below (kept_registers X86_64 saved) 2 ++ stores_below (home_registers X86_64 homes) 5
 
--- how far the stack pointer, rsp, 4, lies from FP, rbp, 5, in a frame of so many bytes
+-- how far the stack pointer, rsp, 4, lies from FP, rbp, 5, in a frame of this many bytes
 abbrev pub lower : ℕ → ℤ
 lower frame = negsuc (frame - 17)
 
 abbrev pub lowered : ℕ → List Instr
 lowered frame = instr.Load Lea 4 5 (lower frame) ∷ []
 
--- which saves so many, with a frame of so many bytes and so many homes
+-- which saves this many, with a frame of this many bytes and this many homes
 abbrev pub prolog_code : ℕ → ℕ → ℕ → List Instr
 prolog_code saved size homes =
     instr.Store St64 4 (negsuc 7) 5 ∷ (instr.Load Lea 5 4 (negsuc 7) ∷ (stored_code saved homes ++ lowered size))

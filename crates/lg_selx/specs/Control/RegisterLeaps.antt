@@ -12,7 +12,7 @@ use Rattle.lg_temp.specs.Abis.{register_of}
 abbrev pub register_jump_code : ℕ → Reg → List Instr
 register_jump_code frame a = instr.JumpReg Jmpr (register_of X86_64 a) ∷ []
 
--- a call of r11, behind al = 0: a host function may read there how many vector registers hold arguments. r11 and rax stand for R2 and R0, which no call
+-- a call of r11, after al = 0: a host function may read there how many vector registers hold arguments. r11 and rax correspond to R2 and R0, which no call
 -- keeps
 abbrev pub called : List Instr
 called = instr.Movi32 0 0 ∷ instr.JumpReg Callr 11 ∷ []

@@ -13,7 +13,7 @@ use Rattle.lg_temp.specs.Abis.{register_of}
 use Rattle.lg_selx_values.specs.Processor.Numbers.{number_row}
 use Rattle.lg_sel.specs.Control.Returns.{Returned, NoWord, OfRegister, OfNumber, OfLabel}
 
--- rbx, r13 and r14 stand for V0, V1 and V2, of which so many are loaded; rbp is 5
+-- rbx, r13 and r14 correspond to V0, V1 and V2, this many of which are loaded; rbp is 5
 abbrev pub restores : ℕ → List Instr
 restores saved = take saved (instr.Load Ld64 3 5 (negsuc 7) ∷ instr.Load Ld64 13 5 (negsuc 15) ∷ instr.Load Ld64 14 5 (negsuc 23) ∷ [])
 

@@ -1,5 +1,5 @@
--- The branches that add and subtract: the sum or difference sets the flags, and a jump is taken where they tell that the exact result does not fit, or
--- that it does.
+-- The branches that add and subtract: the sum or difference sets the flags, and a jump is taken where they say that the exact result does not fit, or that it
+-- does.
 use Rattle.std.specs.Prelude.{ℕ, if◌then◌else◌, List, [], ◌∷◌, Option, Some, None}
 use Rattle.lg_base.specs.Words.{signed_view, is_half}
 use Rattle.lg_base.specs.declared.target.Target.TheVariants.{X86_64}
@@ -43,7 +43,7 @@ sum_number sum.FitAddU = Addi
 sum_number sum.FitSub = Subi
 sum_number sum.FitSubU = Subi
 
--- what then holds of the flags where the node goes to its label: OF tells of signed words, and CF of unsigned ones
+-- what then holds of the flags where the node goes to its label: OF says of signed words, and CF of unsigned ones
 abbrev pub sum_taken : BranchSumOp → Cond
 sum_taken sum.OverflowAdd = cond.Overflow
 sum_taken sum.OverflowAddU = cond.Below
@@ -63,7 +63,7 @@ abbrev pub word_sum : BranchSumOp → ℕ → ℕ → Option ℕ → List Instr
 word_sum o frame a None = []
 word_sum o frame a (Some v) = number_sum o frame a v
 
--- what stands before the jump of such a branch
+-- what is before the jump of such a branch
 abbrev pub before_sum_branch : ℕ → BranchSumOp → Reg → Operand → List Instr
 before_sum_branch frame o a (operand.Reg b) = instr.RmReg (sum_row o) (register_of X86_64 a) (register_of X86_64 b) ∷ []
 before_sum_branch frame o a x = word_sum o frame (register_of X86_64 a) (immediate x)

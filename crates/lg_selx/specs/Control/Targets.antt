@@ -1,4 +1,4 @@
--- What the code of x86-64 does wherever it stands, as the laws of every target ask for it.
+-- What the code of x86-64 does wherever it is, as the laws of every target ask for it.
 use Rattle.std.specs.Prelude.{ℕ, ◌^◌, ◌<◌, ◌≤◌, List, length}
 use Rattle.lg_base.specs.Layout.{most_code}
 use Rattle.lg_x86.specs.Spelling.{IsInstr}
@@ -17,7 +17,7 @@ use Rattle.lg_selx.specs.Control.RegisterLeaps.{register_jump_code, register_cal
 use Rattle.lg_selx.specs.Control.Returns.{returned_code}
 use Rattle.lg_selx.specs.Control.TwoWays.{branch_code, sum_branch_code}
 
--- with this reach, where frames save so many of V0, V1 and V2
+-- with this reach, where frames save this many of V0, V1 and V2
 abbrev pub x86_control : Reach → ℕ → Codes Instr
 x86_control r saved = record {
   branch = branch_code r;

@@ -1,4 +1,4 @@
--- The code of branches on x86-64: a jump on a condition, behind code that sets the flags.
+-- The code of branches on x86-64: a jump on a condition, after code that sets the flags.
 use Rattle.std.specs.Prelude.{ℕ, ◌+◌, pos, ◌-ℤ◌, List, [], ◌∷◌, ◌++◌, length}
 use Rattle.lg_op.specs.declared.op.BranchSumOp.{BranchSumOp}
 use Rattle.lg_op.specs.declared.op.Condition.{Condition}
@@ -19,7 +19,7 @@ abbrev pub jump_if : Reach → Cond → ℕ → ℕ → Instr
 jump_if Short holds at to = instr.JumpIfShort holds (pos to -ℤ pos (at + 2))
 jump_if r holds at to = instr.JumpIfNear holds (pos to -ℤ pos (at + 6))
 
--- front stands before it, from an address on
+-- front is before it, from an address on
 abbrev pub branch_if : Reach → List Instr → Cond → ℕ → ℕ → List Instr
 branch_if r front holds from to = front ++ (jump_if r holds (from + length (spellings spelling front)) to ∷ [])
 

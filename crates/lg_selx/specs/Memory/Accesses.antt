@@ -1,5 +1,5 @@
--- The code of loads and stores: the address is a number of 32 bits behind a register, or is computed into a spare register first; one row loads or
--- stores. A load's spare register is made again where it is FP, and a store's is a temporary. Moves and `lea` alone compute: no flag changes.
+-- The code of loads and stores: the address is a register and a number of 32 bits, or is computed into a spare register first; one row loads or stores. A
+-- load's spare register is made again where it is FP, and a store's is a temporary. Moves and `lea` alone compute: no flag changes.
 use Rattle.std.specs.Prelude.{ℕ, ◌==◌, Bool, true, false, if◌then◌else◌, ℤ, pos, List, [], ◌∷◌, ◌++◌}
 use Rattle.lg_base.specs.Words.{signed_view, is_half}
 use Rattle.lg_base.specs.declared.target.Target.TheVariants.{X86_64}
@@ -83,7 +83,7 @@ remade frame t = if t == 5 then again frame else []
 abbrev pub behind : ℕ → Place → List Instr
 behind frame p = if p.spare then remade frame p.base else []
 
--- a number is added to this register of an address, which is read behind the number
+-- a number is added to this register of an address, which is read after the number
 abbrev pub indexes : ℕ → Address → Bool
 indexes r (Index a v) = register_of X86_64 a == r
 indexes r at = false
@@ -98,7 +98,7 @@ loading frame t d p = p.code ++ instr.Load (load_row t) d p.base p.disp ∷ behi
 abbrev pub storing : StoreType → ℕ → Place → List Instr
 storing t from p = p.code ++ instr.Store (store_row t) p.base p.disp from ∷ []
 
--- the code of a load, in a frame of so many bytes, and that of a store, with a temporary as the spare register
+-- the code of a load, in a frame of this many bytes, and that of a store, with a temporary as the spare register
 abbrev pub load_into : ℕ → ValueType → ℕ → Address → List Instr
 load_into frame t d at = loading frame t d (place_of (load_spare d at) at)
 

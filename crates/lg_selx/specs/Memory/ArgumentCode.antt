@@ -9,7 +9,7 @@ use Rattle.lg_temp.specs.Abis.{register_of}
 use Rattle.lg_carry.specs.Memory.Arguments.{ArgumentCode, argument_of}
 use Rattle.lg_selx.specs.Memory.Accesses.{load_row}
 
--- where argument k of the function stands from FP: in its home, 32 bytes and k words below, or in the caller's stack words, 16 bytes above FP
+-- where argument k of the function is from FP: in its home, 32 bytes and k words below, or in the caller's stack words, 16 bytes above FP
 abbrev pub argument_offset : ℕ → ℤ
 argument_offset k = if nat_lt k 6 then negsuc (31 + 8 * k) else pos (16 + 8 * (k - 6))
 

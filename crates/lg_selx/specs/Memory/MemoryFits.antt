@@ -32,7 +32,7 @@ pub record MemoryItemsStay : Type 0 where
   pub next_arguments : (n : Node) → StayWithin false (ones (next_argument_code n))
   pub pushes : (frame j : ℕ) (n : Node) → StayWithin false (push_code frame j n)
 
--- the items are in the ranges of their instructions, of which there are at most so many, with at most one fix, and each is followed by the next
+-- the items are in the ranges of their instructions (at most this many), with at most one fix, and each is followed by the next
 abbrev pub AreMemoryItems : ℕ → List Item → Type 0
 AreMemoryItems most items = good_items.AreFew x86_holes is_straight IsItem (StaysWithin false) most items
 

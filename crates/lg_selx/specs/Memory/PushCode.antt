@@ -36,7 +36,7 @@ abbrev pub onto_stack : ℕ → ℕ → Operand → List Item
 onto_stack frame j (operand.Reg r) = stack_push j (register_of X86_64 r) ∷ []
 onto_stack frame j x = into 5 x ++ stack_push j 5 ∷ ones (again frame)
 
--- argument j of the call, in a function with a frame of so many bytes
+-- argument j of the call, in a function with a frame of this many bytes
 abbrev pub push_items : ℕ → ℕ → Operand → List Item
 push_items frame j x = if nat_lt j 6 then into (slice_index (argument_registers X86_64) j) x else onto_stack frame j x
 

@@ -13,7 +13,7 @@ use Rattle.lg_temp.specs.Abis.{register_of}
 use Rattle.lg_carry.specs.Memory.VariableArguments.{NextArgumentCode, next_argument_of}
 
 -- argument k, whose number is in rs, stands k words below the address that is 32 bytes below FP, 5, where k is below 6, and else k words above it: rd gets -1
--- or 1, the product with k, and the word that stands so many words from there; rs gets the next number
+-- or 1, the product with k, and the word that is this many words from there; rs gets the next number
 abbrev pub next_code : ℕ → ℕ → List Instr
 next_code rd rs =
     instr.Load Lea rd rs (negsuc 5) ∷ instr.Shift Sari rd 63 ∷ instr.Imm Ori rd (pos 1) ∷ instr.RegRm Imul rd rs ∷ instr.Shift Shli rd 3

@@ -23,7 +23,7 @@ fn comparison(condition: Condition) -> RmRegOp
     }
 }
 
-// Whether a difference is asked for.
+// Returns whether a difference is asked for.
 fn is_difference(condition: Condition) -> bool
     ensures { result ≡ is_difference condition }
 {
@@ -51,7 +51,7 @@ fn taken(condition: Condition) -> Cond
     }
 }
 
-// The row of a register and a number.
+// Returns the row of a register and a number.
 fn with_number(op: ImmOp, rm: u8, imm: i32) -> Instr
     ensures { result ≡ Instr.Imm op rm imm }
 {
@@ -122,7 +122,7 @@ fn put_number_comparison(
     }
 }
 
-// Puts what stands before the jump of a branch.
+// Puts what is before the jump of a branch.
 fn put_before(
     condition: Condition,
     frame: u32,

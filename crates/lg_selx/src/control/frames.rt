@@ -37,7 +37,7 @@ fn store(base: u8, disp: i32, reg: u8) -> Instr
     }
 }
 
-// The stack pointer falls from FP to the end of a frame of so many bytes.
+// The stack pointer falls from FP to the end of a frame of this many bytes.
 fn lowered(size: u32) -> Instr
     requires some { 272 ≤ size }
     requires small { size < 0x4000_0000 }
@@ -81,7 +81,7 @@ fn home_stores() -> [Instr; 6]
     ]
 }
 
-// Appends the stores of a `prolog` by FP: of so many of V0, V1 and V2, and of so many homes.
+// Appends the stores of a `prolog` by FP: of this many of V0, V1 and V2, and of this many homes.
 #[tactic(auto, using(lg_selx_values::proofs::ItemLemmas::words_append))]
 fn put_stores(homes: u32, saved: u32, items: &mut Items<Item>)
     requires room { words_in items.old ≤ 50 }
@@ -92,7 +92,7 @@ fn put_stores(homes: u32, saved: u32, items: &mut Items<Item>)
     items.all(&home_stores()[..homes.min(6) as usize]);
 }
 
-// Appends the code of a `prolog` with so many homes to none, which saves so many of V0, V1 and V2.
+// Appends the code of a `prolog` with this many homes to none, which saves this many of V0, V1 and V2.
 #[tactic(auto, using(lg_selx_values::proofs::ItemLemmas::words_append))]
 fn put_prolog(size: u32, homes: u32, saved: u32, items: &mut Items<Item>)
     requires empty { items.old ≡ [] }
@@ -124,7 +124,7 @@ fn restores() -> [Instr; 3]
     [load(V0, -8), load(V1, -16), load(V2, -24)]
 }
 
-// And what it does behind that.
+// And what it does after that.
 fn leaves() -> [Instr; 3]
     ensures { result ≡ return_code 0 }
 {
@@ -135,7 +135,7 @@ fn leaves() -> [Instr; 3]
     ]
 }
 
-// Appends a return that restores so many of V0, V1 and V2.
+// Appends a return that restores this many of V0, V1 and V2.
 #[tactic(auto, using(lg_selx_values::proofs::ItemLemmas::words_append))]
 pub(crate) fn put_return(saved: u32, items: &mut Items<Item>)
     requires { words_in items.old ≤ 50 }

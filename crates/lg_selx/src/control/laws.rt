@@ -21,7 +21,7 @@ pub fn control_items_fit()
     ensures { ControlItemsFit }
 {}
 
-/// Behind the code of `.align` is a multiple of its alignment.
+/// After the code of `.align` is a multiple of its alignment.
 pub fn alignments_align()
     ensures { AlignmentsAlign }
 {}

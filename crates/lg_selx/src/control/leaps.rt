@@ -107,7 +107,7 @@ fn put_register_call(operands: &[Operand], items: &mut Items<Item>)
     }
 }
 
-// Puts the word of a result into its register, which stands for R0.
+// Puts the word of a result into its register, which corresponds to R0.
 fn put_result(operand: Operand, items: &mut Items<Item>)
     requires { items.old ≡ [] }
     ensures items { items.new ≡ result_items operand }

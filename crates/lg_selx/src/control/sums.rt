@@ -71,7 +71,7 @@ fn put_number_sum(op: BranchSumOp, frame: u32, a: u8, value: u64, items: &mut It
     }
 }
 
-// Puts what stands before the jump of such a branch.
+// Puts what is before the jump of such a branch.
 fn put_before_sum(op: BranchSumOp, frame: u32, first: Reg, second: Operand, items: &mut Items<Item>)
     requires empty { items.old ≡ [] }
     requires some { 272 ≤ frame }

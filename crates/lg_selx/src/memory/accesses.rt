@@ -18,7 +18,7 @@ use lg_selx_values::{FRAME_POINTER, Item, half_number, put_number, restore, save
 use lg_temp::{Choice, Choices};
 use lg_x86::{Instr, LoadOp, StoreOp};
 
-// Where an access is: a register and a number behind it, and whether the register is a spare one.
+// Where an access is: a register and a number added to it, and whether the register is a spare one.
 #[derive(Clone, Copy)]
 struct Base {
     register: u8,
@@ -26,7 +26,7 @@ struct Base {
     spare: bool,
 }
 
-// The row that loads by a type.
+// Returns the row that loads by a type.
 pub(crate) fn load_row(t: ValueType) -> LoadOp
     ensures { result ≡ load_row t }
 {
@@ -41,7 +41,7 @@ pub(crate) fn load_row(t: ValueType) -> LoadOp
     }
 }
 
-// The row that stores by a type.
+// Returns the row that stores by a type.
 fn store_row(t: StoreType) -> StoreOp
     ensures { result ≡ store_row t }
 {
@@ -53,7 +53,7 @@ fn store_row(t: StoreType) -> StoreOp
     }
 }
 
-// An address that is a number behind a register.
+// An address that is a register and a number.
 fn at_register(register: u8, disp: i32) -> Base
     ensures register { result.register ≡ (at_register register disp).base }
     ensures disp { result.disp ≡ (at_register register disp).disp }
@@ -137,7 +137,7 @@ fn put_address(
     }
 }
 
-// Whether a number is added to this register in the address that operands give.
+// Returns whether a number is added to this register in the address that operands give.
 fn indexes(reg: u8, at: Addressing, first: Operand, second: Operand) -> bool
     ensures { result ≡ indexes reg (address_of at first second) }
 {
@@ -150,7 +150,7 @@ fn indexes(reg: u8, at: Addressing, first: Operand, second: Operand) -> bool
     }
 }
 
-// The spare register of a load.
+// Returns the spare register of a load.
 fn load_spare(reg: u8, at: Addressing, first: Operand, second: Operand) -> u8
     ensures { result ≡ load_spare reg (address_of at first second) }
 {
@@ -174,7 +174,7 @@ fn put_remade(frame: u32, spare: u8, items: &mut Items<Item>)
     }
 }
 
-// The instruction that loads by a type.
+// Returns the instruction that loads by a type.
 fn load(t: ValueType, reg: u8, base: Base) -> Instr
     ensures { result ≡ Instr.Load (load_row t) reg base.register base.disp }
 {
@@ -186,7 +186,7 @@ fn load(t: ValueType, reg: u8, base: Base) -> Instr
     }
 }
 
-// The instruction that stores by a type.
+// Returns the instruction that stores by a type.
 fn store(t: StoreType, reg: u8, base: Base) -> Instr
     ensures { result ≡ Instr.Store (store_row t) base.register base.disp reg }
 {
@@ -216,7 +216,7 @@ pub fn put_load(node: &Node, frame: u32, t: ValueType, at: Addressing, items: &m
     }
 }
 
-// The operand that a node stores.
+// Returns the operand that a node stores.
 fn stored(at: Addressing, node: &Node) -> Operand
     ensures { result ≡ operand_at node.now (stored_operand at) }
 {

@@ -70,7 +70,7 @@ fn put_onto_stack(frame: u32, index: u32, operand: Operand, items: &mut Items<It
     }
 }
 
-// The register of an argument, which is one of the first six.
+// Returns the register of an argument, which is one of the first six.
 fn argument_register(index: u32) -> u8
     requires { index < 6 }
     ensures { result ≡ slice_index (argument_registers X86_64) index }
@@ -101,7 +101,7 @@ pub fn put_argument(node: &Node, frame: u32, index: u32, items: &mut Items<Item>
     }
 }
 
-// How far an argument is from FP, in bytes. Its number is below 16.
+// Returns how far an argument is from FP, in bytes. Its number is below 16.
 fn argument_offset(index: u32) -> i32
     requires { index < 16 }
     ensures { result ≡ argument_offset index }
@@ -122,8 +122,8 @@ fn argument_load(t: ValueType, reg: u8, index: u32) -> Instr
     }
 }
 
-/// Appends the code of a node that reads an argument of its function to no items: one instruction, or none where no function has so many
-/// arguments. It is the same in every frame.
+/// Appends the code of a node that reads an argument of its function to no items: one instruction, or none where no function has this many arguments. It is
+/// the same in every frame.
 pub fn put_getarg(node: &Node, t: ValueType, items: &mut Items<Item>)
     requires { items.old ≡ [] }
     ensures { items.new ≡ ones (argument_code 0 t node.now) }
@@ -152,8 +152,8 @@ fn shift(op: ShiftOp, reg: u8, count: u8) -> Instr
     Instr::Shift { op, rm: reg, count }
 }
 
-// The argument whose number is in `next` into `reg`, and the number behind it into `next`: the first 6 arguments lie below the address that is 32 bytes
-// below FP, by as many words as the number says, and the others above it.
+// The argument whose number is in `next` into `reg`, and the number after it into `next`: the first 6 arguments lie below the address that is 32 bytes below
+// FP, by as many words as the number says, and the others above it.
 fn next_code(reg: u8, next: u8) -> [Instr; 8]
     ensures { result ≡ next_code reg next }
 {

@@ -3,12 +3,12 @@
 ghost use Rattle.lg_selx.specs.Memory.MemoryNodes.{MemoryIsCarried};
 ghost use Rattle.lg_selx.specs.Memory.MemoryFits.{MemoryItemsFit, MemoryItemsName, MemoryItemsStay};
 
-/// Loads, stores and nodes that read and pass arguments, also variable ones, are carried, whatever is live behind them.
+/// Loads, stores and nodes that read and pass arguments, also variable ones, are carried, whatever is live after them.
 pub fn memory_nodes_are_carried()
     ensures { MemoryIsCarried }
 {}
 
-/// The items are in the ranges of their instructions, of which there are at most 8, and each is followed by the next.
+/// The items are in the ranges of their instructions (at most 8), and each is followed by the next.
 pub fn memory_items_fit()
     ensures { MemoryItemsFit }
 {}

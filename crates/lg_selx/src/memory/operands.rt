@@ -7,7 +7,7 @@ use lg_carry::memory::operands::named;
 use lg_op::Operand;
 use lg_selx_values::register_of;
 
-// The register of an operand that is one, and else that of FP.
+// Returns the register of an operand that is one, and else that of FP.
 pub(crate) fn register(operand: Operand) -> u8
     ensures { result ≡ register operand }
 {

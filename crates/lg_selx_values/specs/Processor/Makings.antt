@@ -1,4 +1,4 @@
--- What instructions behind each of which the next one follows make of registers, flags and memory.
+-- What instructions after each of which the next one follows make of registers, flags and memory.
 use Rattle.lg_x86.specs.declared.instruction.BareOp.TheVariants.{Ret}
 use Rattle.lg_x86.specs.declared.instruction.JumpRegOp.TheVariants.{Callr}
 use Rattle.lg_x86.specs.declared.instruction.JumpNearOp.TheVariants.{Call32}
@@ -40,7 +40,7 @@ is_still (JumpReg Callr rm) = false
 is_still (Bare Ret) = false
 is_still i = true
 
--- where they make a scene of that of a run, they go through and leave it; the program counter is behind them, and all else stays
+-- where they make a scene of that of a run, they go through and leave it; the program counter is after them, and all else stays
 pub record RunsMakings (is : List Instr) (q : Run CpuState) (t : Scene) : Type 0 where
   pub through : GoesThrough x86_does (λ (r : Run CpuState). status_of r.progress) x86_above is q
   pub runs : status_of (done x86_does is q).progress ≡ Running

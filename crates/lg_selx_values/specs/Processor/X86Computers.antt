@@ -19,7 +19,7 @@ use Rattle.lg_carry.specs.Nodes.Isas.{IsIsa}
 use Rattle.lg_carry.specs.Values.Computers.{Held, Computer, IsComputer}
 use Rattle.lg_selx_values.specs.Processor.X86Rows.{x86_rows}
 
--- no register holds nothing that is needed behind a `prolog`: code that spoils FP makes it again from the stack pointer
+-- no register holds nothing that is needed after a `prolog`: code that spoils FP makes it again from the stack pointer
 abbrev pub x86_scratch : ℕ → Bool
 x86_scratch x = false
 

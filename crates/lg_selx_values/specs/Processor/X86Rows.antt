@@ -52,7 +52,7 @@ slot_offset k = negsuc (95 + 8 * k)
 abbrev pub can_save : ℕ → Bool
 can_save r = nat_lt r 16 && not (r == 5)
 
--- an instruction may stand anywhere
+-- an instruction may be anywhere
 abbrev pub x86_rows : List ℕ → ℕ → Rows (Run CpuState) Instr
 x86_rows code trash = record {
   processor = x86_processor code trash;

@@ -8,7 +8,7 @@ ghost use Rattle.lg_selx_values.specs.Processor.Touches.{StepsLeave, StepsOverlo
 ghost use Rattle.lg_selx_values.specs.Processor.X86Computers.{InstructionsAreIsa, InstructionsCompute};
 ghost use Rattle.lg_selx_values.specs.Processor.X86Rows.{InstructionsAreRows, InstructionsAreSpills};
 
-/// The instruction whose spelling stands at the program counter is executed, and the next one follows.
+/// The instruction whose spelling is at the program counter is executed, and the next one follows.
 pub fn instructions_are_rows()
     ensures { InstructionsAreRows }
 {}
@@ -48,12 +48,12 @@ pub fn making_nodes_compute()
     ensures { MakingNodesCompute }
 {}
 
-/// A step that is no host function's goes in one way whatever stands where it touches nothing, and leaves that as it was.
+/// A step that is no host function's goes in one way whatever is where it touches nothing, and leaves that as it was.
 pub fn steps_leave()
     ensures { StepsLeave }
 {}
 
-/// So one that touches nothing below the stack pointer overlooks what stands there.
+/// So one that touches nothing below the stack pointer overlooks what is there.
 pub fn steps_overlook()
     ensures { StepsOverlook }
 {}

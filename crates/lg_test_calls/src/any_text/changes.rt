@@ -9,7 +9,7 @@ use std::alloc::Global;
 // Bytes that mean something in a text.
 const MARKS: &[u8] = b"\"'#%@$:.,()\\\n\t /*-+0x9_ZdfDF\x00\xff";
 
-// The place of a byte of a text, or behind its last.
+// The place of a byte of a text, or after its last.
 fn place(random: &mut Random, text: &[u8]) -> usize
     ensures { result ≤ length text.now }
 {
@@ -34,7 +34,7 @@ fn replaced(
     Ok(out)
 }
 
-// A text in which one place was changed: a byte is any, or a mark, some bytes are gone, or some stand there that stand elsewhere.
+// A text in which one place was changed: a byte is any, or a mark, some bytes are gone, or some are there that are elsewhere.
 fn changed_once(alloc: Global, text: &[u8], random: &mut Random) -> Result<Vec<u8>, OutOfMemory> {
     let from = place(random, text);
     let some = random.below(16).min(text.len() - from);

@@ -6,7 +6,7 @@ use lg_base::OutOfMemory;
 use std::alloc::Global;
 use std::str;
 
-// Options that stand in front of a case's own: one for each target, for the meaning, and none.
+// Options that are in front of a case's own: one for each target, for the meaning, and none.
 const WAYS: [&str; 5] = [
     "--target x86_64",
     "--target aarch64",
@@ -25,7 +25,7 @@ pub struct Case<'a> {
     pub name: &'a str,
     /// The words of the command.
     pub words: &'a str,
-    /// Words behind them, with bars between.
+    /// Words after them, with bars between.
     pub further: &'a str,
     /// What fails.
     pub faults: Faults,
@@ -41,7 +41,7 @@ pub struct Case<'a> {
 }
 
 impl Case<'_> {
-    /// The options of each of its calls.
+    /// Returns the options of each of its calls.
     pub fn ways(&self) -> &'static [&'static str] {
         match self.ways {
             "all" => &WAYS[..4],
@@ -50,28 +50,28 @@ impl Case<'_> {
         }
     }
 
-    /// Whether its calls go over the real files.
+    /// Returns whether its calls go over the real files.
     pub fn is_of_files(&self) -> bool {
         self.text == "FILES"
     }
 }
 
-/// What stands in a line at a number, from 0 on, with this character between; empty where the line ends before it.
+/// What is in a line at a number, from 0 on, with this character between; empty where the line ends before it.
 pub fn column(line: &str, between: char, number: usize) -> &str {
     line.split(between).nth(number).unwrap_or("")
 }
 
-/// The number that stands there, and else another.
+/// Returns the number that is there, and else another.
 pub fn number(line: &str, between: char, at: usize, other: u64) -> u64 {
     str::parse(column(line, between, at)).unwrap_or(other)
 }
 
-/// The case of a block: in the first line, with tabs between, its name, its status, its ways (`all`, on each target and by its meaning, `targets`, on each
-/// target, and else as it stands), and the words of the command; then, each 0 or left out where there is none, the number of the call of the texts that
-/// fails, of the write to the standard output, and of that to the standard error, and how many bytes the standard output takes (65,536 where nothing is said);
-/// then words behind those of the command, with bars between, for which lines stand as for a text. Behind it stand the text, what it writes, and the form of its
-/// lines on the standard error, with a line of four hyphens behind the first two. The last line feed of each is not its own. A text `FILES` says that the calls go
-/// over the real files, and an output `MEANING` that it is that of the text's meaning. None where the block has another form.
+/// Returns the case of a block: in the first line, with tabs between, its name, its status, its ways (`all`, on each target and by its meaning, `targets`, on
+/// each target, and else as it is), and the words of the command; then, each 0 or left out where there is none, the number of the call of the texts that
+/// fails, of the write to the standard output, and of that to the standard error, and how many bytes the standard output takes (65,536 where nothing is
+/// said); then words after those of the command, with bars between, for which lines are as for a text. After it stand the text, what it writes, and the form
+/// of its lines on the standard error, with a line of four hyphens after the first two. The last line feed of each is not its own. A text `FILES` says that
+/// the calls go over the real files, and an output `MEANING` that it is that of the text's meaning. None where the block has another form.
 pub fn parse_case(block: &str) -> Option<Case<'_>> {
     let (first, rest) = block.split_once('\n')?;
     let (text, rest) = rest.split_once("\n----\n")?;
@@ -95,7 +95,7 @@ pub fn parse_case(block: &str) -> Option<Case<'_>> {
     })
 }
 
-/// The words of a case, behind options.
+/// Returns the words of a case, after options.
 pub fn words_behind(
     alloc: Global,
     options: &str,

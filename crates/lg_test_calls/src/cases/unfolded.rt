@@ -3,7 +3,7 @@
 use std::alloc::{AllocError, Global};
 use std::str;
 
-// Appends a piece so many times.
+// Appends a piece this many times.
 fn push_times(bytes: &mut Vec<u8>, times: u32, piece: &[u8]) -> Result<(), AllocError> {
     for _ in 0..times {
         bytes.extend_from_slice(piece)?;
@@ -11,7 +11,7 @@ fn push_times(bytes: &mut Vec<u8>, times: u32, piece: &[u8]) -> Result<(), Alloc
     Ok(())
 }
 
-// Appends what a line stands for.
+// Appends what a line denotes.
 fn push_line(bytes: &mut Vec<u8>, head: &str, line: &str) -> Result<(), AllocError> {
     let words = line.strip_suffix('\n').unwrap_or(line);
     if words == "HEAD" {
@@ -26,8 +26,8 @@ fn push_line(bytes: &mut Vec<u8>, head: &str, line: &str) -> Result<(), AllocErr
     }
 }
 
-/// The bytes that lines stand for: `REPEAT N PIECE` for so many times the piece, `BYTE N` for that byte, both with no line feed behind, `HEAD` for the head of
-/// the file, and every other line for itself.
+/// Returns the bytes that lines denote: `REPEAT N PIECE` for this many times the piece, `BYTE N` for that byte, both with no line feed after, `HEAD` for the
+/// head of the file, and every other line for itself.
 pub fn unfolded(alloc: Global, head: &str, lines: &str) -> Result<Vec<u8>, AllocError> {
     let mut bytes = Vec::new(alloc);
     for line in lines.split_inclusive('\n') {

@@ -1,4 +1,4 @@
-// Conditions and their expressions, worked out by hand from the rules of the preprocessor.
+// Conditions and their expressions, computed by hand from the rules of the preprocessor.
 
 use crate::rows::{Kind, Made, Piece, Table};
 
@@ -75,7 +75,7 @@ const TABLES: &[Table] = &[
     (Kind::Expansion, &[], REFUSED),
 ];
 
-// 64 conditions may be open, in skipped groups too, and all have to be closed. Of each condition stand here 64, one more, and one end less.
+// 64 conditions may be open, in skipped groups too, and all have to be closed. Of each condition are here 64, one more, and one end less.
 const MADE: &[Made] = &[
     (
         Kind::Expansion,

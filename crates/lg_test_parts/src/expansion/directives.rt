@@ -1,4 +1,4 @@
-// Directives and macros' bodies, worked out by hand from the rules of the preprocessor.
+// Directives and macros' bodies, computed by hand from the rules of the preprocessor.
 
 use crate::rows::{Kind, Table};
 

@@ -2,7 +2,7 @@
 
 use crate::rows::{Kind, Made, Piece, Table};
 
-// So many calls of F, one in the other.
+// This many calls of F, one in the other.
 const CALLS_200: &[Piece] = &[
     Piece::Of(b"#define F(x) x\n"),
     Piece::Times(b"F(", 200),
@@ -78,7 +78,7 @@ const FULL_EXPANSION: &[Piece] = &[
     Piece::Of(b";"),
 ];
 
-// What passes behind that text, in its line 4. An expansion has at most 16,777,216 bytes: the piece that passes is told by its line.
+// What passes after that text, in its line 4. An expansion has at most 16,777,216 bytes: the piece that passes is found by its line.
 const BEHIND_THE_LAST_BYTE: &str = "ExpandTooMuch 4\x1f\n\x1e\
         ExpandTooMuch 4\x1f;\x1e\
         ExpandTooMuch 4\x1f; F(1\x1e\
@@ -86,7 +86,7 @@ const BEHIND_THE_LAST_BYTE: &str = "ExpandTooMuch 4\x1f\n\x1e\
         BadMacro 4\x1fF(1,2)\x1e\
         ExpandTooMuch 4\x1f\n#endif";
 
-// Definitions of F, of B with 300 bytes, and of A, and a comment, behind which 1,210 bytes have room.
+// Definitions of F, of B with 300 bytes, and of A, and a comment, after which 1,210 bytes have room.
 const LONG_COMMENT: &[Piece] = &[
     Piece::Of(b"#define F(a) a\n#define B "),
     Piece::Times(b"x", 300),
@@ -102,7 +102,7 @@ const FIRST: &str = "ExpandTooMuch 4\x1fB B B B B\nF(1\x1e\
         BadMacro 4\x1fF(1,2) B B B B B\x1e\
         BadMacro 5\x1f\nA";
 
-// Lists in between would have 2^40 pieces, though little is replaced and nothing is left: memory is wanted at once.
+// Lists in between would have 2^40 pieces, though little is replaced and nothing is left: memory runs out immediately.
 const DOUBLED_40: &[Piece] = &[
     Piece::Of(b"#define F(x) x x\n#define D(x)\nD("),
     Piece::Times(b"F(", 40),

@@ -1,4 +1,4 @@
-// The replacement of names and of calls, worked out by hand from the rules of the preprocessor.
+// The replacement of names and of calls, computed by hand from the rules of the preprocessor.
 
 use crate::rows::{Kind, Table};
 

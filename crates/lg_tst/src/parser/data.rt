@@ -17,7 +17,7 @@ use lg_base::{RefusalKind, Stop};
 use lg_lex::{Token, TokenKind, string_bytes};
 use lg_operand::misfit;
 
-// Whether a number is a power of two from 1 to 4,096.
+// Returns whether a number is a power of two from 1 to 4,096.
 fn is_data_alignment(number: u64) -> bool
     ensures value { result ≡ is_data_alignment number }
     ensures some { result ≡ true → 0 < number }
@@ -28,7 +28,7 @@ fn is_data_alignment(number: u64) -> bool
     )
 }
 
-// How many bytes lie between a place and the next multiple.
+// Returns how many bytes lie between a place and the next multiple.
 fn padding(place: u64, multiple: u64) -> u64
     requires { 0 < multiple }
     ensures { result ≡ padding place multiple }
@@ -49,7 +49,7 @@ impl Parser<'_> {
         Ok(token)
     }
 
-    // Begins the data section, whose part has so many bytes.
+    // Begins the data section, whose part has this many bytes.
     fn open(&mut self, size: Token) -> Result<(), Stop>
         requires { is_some self.old.part.size ≡ false }
         ensures { Gives result self.new (opened self.old size) }
@@ -85,7 +85,7 @@ impl Parser<'_> {
         }
     }
 
-    // So many zeros of the data part.
+    // This many zeros of the data part.
     fn store_zeros(&mut self, count: u64, line: u32) -> Result<(), Stop>
         ensures { Gives result self.new (stored line count (zeros count) self.old) }
     {

@@ -23,7 +23,7 @@ use lg_operand::{
 // The most nodes of a text.
 const MOST_NODES: u32 = 1_048_576;
 
-// The forms of the operands that have tokens: `va_start` has one more.
+// Returns the forms of the operands that have tokens: `va_start` has one more.
 fn written_forms(op: Op) -> &'static [Form]
     ensures { result.now ≡ written_forms op }
 {
@@ -61,7 +61,7 @@ impl Parser<'_> {
         }
     }
 
-    // A name that `allocai` makes behind its first operand.
+    // A name that `allocai` makes after its first operand.
     fn new_local(&mut self, done: &[Operand], word: &[u8], line: u32) -> Result<Operand, Stop>
         requires room { HasRoom self.old }
         ensures gives { GivesWith result self.new (at_line line (name_operand Form.NewLocal self.old.names word.now)) record self.old
@@ -132,7 +132,7 @@ impl Parser<'_> {
         }
     }
 
-    // The operand that a token is, behind those before it.
+    // The operand that a token is, after those before it.
     fn operand(
         &mut self,
         op: Op,
@@ -164,7 +164,7 @@ impl Parser<'_> {
         Ok(())
     }
 
-    // All operands of an operation, behind those that have tokens.
+    // All operands of an operation, after those that have tokens.
     fn all_operands(&self, op: Op, done: Operands) -> Operands
         requires { length done ≡ length (written_forms op) }
         ensures { result ≡ all_operands op done self.now.names }

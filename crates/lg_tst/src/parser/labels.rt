@@ -59,7 +59,7 @@ impl Parser<'_> {
         Ok(())
     }
 
-    // Goes behind the next token where that is a string.
+    // Moves past the next token where that is a string.
     fn skip_string(&mut self)
         ensures { self.new ≡ skip_if is_string self.old }
     {
@@ -70,7 +70,7 @@ impl Parser<'_> {
         }
     }
 
-    // Goes behind the next token where that is a number.
+    // Moves past the next token where that is a number.
     fn skip_number(&mut self)
         ensures { self.new ≡ skip_if is_digits self.old }
     {

@@ -6,7 +6,7 @@ use Rattle.lg_buf.specs.Fixing.{Fits}
 use Rattle.lg_buf.proofs.PatchLemmas.{one_more}
 use Rattle.lg_buf.proofs.patches.patch_all.Goals as goal
 
--- a fix that stands for those past the end
+-- a fix that corresponds to those past the end
 abbrev any_fix : Fix
 any_fix = record { place = 0; kind = X86Rel8; label = record { 0 = 0 } }
 

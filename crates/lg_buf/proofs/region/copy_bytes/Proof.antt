@@ -101,7 +101,7 @@ module _ {M : Type 1} {𝓤 : Ura M} (𝓛 : Logic 𝓤) (at_mem : Memory → SP
           assigns_last ! (of_opd ! (get ! refl)) (through ! refl (stop !)) (init ! 0 refl good) $
           exec ! 𝓣.C 𝓣.Λ En (after 3 code.Mir.turn-1) (any_q (Turned t)) $
           sets_last ! (bin ! (get ! refl) (lit ! tt) (record { fits = f₁ })) refl (tt, record { fits = f₁ }) $
-          -- [the byte; the room behind it; the byte that was read; the others; what was written]
+          -- [the byte; the room after it; the byte that was read; the others; what was written]
           use1 𝓛 (‵ (byte 𝓛 bd v (i + od))) (uint_in 𝓛 full_share w8 v bd (i + od)) $ rewrite ! 0 (λ (k : ℕ). ‵ (byte 𝓛 bd v k)) at refl $ move ! (4 ∷ 0 ∷ []) $
           use2 𝓛 (‵ (bytes 𝓛 bd (take i xs ++ v ∷ []) od)) (behind 𝓛 bd (take i xs) v od) $
           rewrite ! 0 (λ (zs : List ℕ). ‵ (bytes 𝓛 bd zs od)) (sym (take_snoc xs i 0 inside)) refl $ move ! (2 ∷ 3 ∷ []) $

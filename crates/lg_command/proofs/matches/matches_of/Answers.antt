@@ -31,7 +31,7 @@ pub returns-in-Ok-try_get_matches_from-clause-range : goal.returns-in-Ok-try_get
 returns-in-Ok-try_get_matches_from-clause-range c =
     in_range c.in-Ok.command c.in-Ok.ensures c.in-Ok-try_get_matches_from.matches c.in-Ok-try_get_matches_from.ensures.parsed
 
--- an error that is no want of memory has a kind, so that there is one
+-- an error other than running out of memory has a kind, so that there is one
 has_kind : (kinds : Kinds) (e : Error) → HasKind kinds e → (kind_of e ≡ OutOfMemory → ⊥) → kinds ≢ []
 has_kind kinds e (inl memory) other = λ none. other memory
 has_kind kinds e (inr among) other = λ none. let P : Kinds → Type 0 = λ ks. IsAmong (kind_of e) ks in subst P none among

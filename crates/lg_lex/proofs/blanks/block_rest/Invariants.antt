@@ -1,4 +1,4 @@
--- The comment ends behind the bytes so far.
+-- The comment ends after the bytes so far.
 use Rattle.std.proofs.Common.{◌≡◌, drop}
 use Rattle.lg_lex.specs.Bytes.{further}
 use Rattle.lg_lex.specs.Blanks.{block_rest}

@@ -1,4 +1,4 @@
--- The name so far stands at the front of the word.
+-- The name so far is at the front of the word.
 use Rattle.std.proofs.Common.{◌≡◌, drop}
 use Rattle.std.specs.Str.{bytes_eq}
 use Rattle.lg_op.proofs.names.is_same.Given as goal

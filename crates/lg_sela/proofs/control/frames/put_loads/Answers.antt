@@ -9,7 +9,7 @@ use Rattle.lg_sela_values.specs.declared.items.Item.TheVariants.{One}
 use Rattle.lg_sela_values.proofs.ItemLemmas.{words_append, words-ones}
 use Rattle.lg_sela.proofs.control.frames.put_loads.Goals as goal
 
--- so many words
+-- this many words
 long : (old : List Item) (is : List Instr) (m : ℕ) → words_in (old ++ ones (take m is)) ≤ words_in old + length is
 long old is m =
     let both = words_append old (ones (take m is)) in let size = words-ones (take m is) in let few = length-take m is in omega (arith, both, size, few)

@@ -11,7 +11,7 @@ use Rattle.lg_selr_values.specs.declared.items.Item.{Item}
 use Rattle.lg_selr_values.specs.declared.items.Item.TheVariants.{One}
 use Rattle.lg_selr.proofs.control.frames.put_stores.Goals as goal
 
--- those of V0 to V2 stand behind the link and FP
+-- those of V0 to V2 are after the link and FP
 firsts-put : (first saved m : ℕ) (front back : List Instr) (old mid new : List Item) → m ≡ min saved 3 → front ≡ stores_below first (first_registers 0) 0
     → back ≡ stores_below first (kept_registers Riscv64 3) 2 → mid ≡ old ++ ones front → new ≡ mid ++ ones (take m back)
     → new ≡ old ++ ones (stores_below first (first_registers saved) 0)
