@@ -16,7 +16,7 @@ use Rattle.lg_sel.specs.Selected.{first_arguments}
 use Rattle.lg_temp.specs.declared.choice.Choice.{Choice}
 use Rattle.lg_temp.specs.declared.choice.Choice.TheVariants.{Free, Own, Spill}
 use Rattle.lg_asm.specs.Assembled.{ArePushed}
-use Rattle.lg_asm.specs.Passed.{passed_behind}
+use Rattle.lg_asm.specs.Passed.{passed_after}
 use Rattle.lg_asm.specs.NodeChoices.{live_behind, needs_on, node_choices, choices_at, is_spill, spills_of, spills_in}
 use Rattle.lg_asm.proofs.WellLemmas.{passed-next, pushed-few}
 
@@ -60,7 +60,7 @@ spills-next target nodes sets i = rw add-one refl
 
 -- those of one node more
 pub one-counted : (target : Target) (l : LabelledNodes) (sets : LiveSets) (xs : List ℕ) (passed saved i : ℕ) (n : Node) (more : ℕ) → IsAccepted l → i < length l.nodes → AreCounted target l sets xs passed saved i → slice_get l.nodes i ≡ Some n
-    → more ≡ saved + spills_of (choices_at target l.nodes sets i) → AreCounted target l sets (xs ++ passed ∷ []) (passed_behind passed n.op) more (i + 1)
+    → more ≡ saved + spills_of (choices_at target l.nodes sets i) → AreCounted target l sets (xs ++ passed ∷ []) (passed_after passed n.op) more (i + 1)
 one-counted target l sets xs passed saved i n more accepted lt a here is = record {
   pushed_are = record {
     counted = length-append xs (passed ∷ []) ∙ ap (λ k. k + 1) long;

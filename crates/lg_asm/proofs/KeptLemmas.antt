@@ -12,7 +12,7 @@ use Rattle.lg_base.specs.declared.host_name.HostName.{HostName}
 use Rattle.lg_base.specs.declared.target.Target.{Target}
 use Rattle.lg_base.specs.declared.target.Target.TheVariants.{X86_64, Aarch64, Riscv64}
 use Rattle.lg_host.specs.Host.{Host, Gives, Exits, Undefined}
-use Rattle.lg_cpu.specs.HostSteps.{put, clobbered, behind_call, returned, answer_at}
+use Rattle.lg_cpu.specs.HostSteps.{put, clobbered, after_call, returned, answer_at}
 use Rattle.lg_cpu.specs.States.{CpuState}
 use Rattle.lg_cpu.specs.Steps.{Progress, Goes, EndedWith, Faulted, Effect, Run, after, on_going}
 use Rattle.lg_cpu.specs.Targets.{effect_of}
@@ -32,8 +32,8 @@ kept-no-result Riscv64 e = cc
 same-number : (a b : ℕ) → (a == b) ≡ true → a ≡ b
 same-number a b e = grind (arith, e)
 
-behind-keeps : (target : Target) (n : ℕ) (w : ℕ → ℕ) (trash v r : ℕ) → is_kept target r ≡ true → behind_call target n w trash v r ≡ w r
-behind-keeps target n w trash v r e =
+after-keeps : (target : Target) (n : ℕ) (w : ℕ → ℕ) (trash v r : ℕ) → is_kept target r ≡ true → after_call target n w trash v r ≡ w r
+after-keeps target n w trash v r e =
     let other : (r == result_register target) ≡ false =
     false_from_ne_true (r == result_register target) (λ z. kept-no-result target (subst (λ x. is_kept target x ≡ true) (same-number r (result_register target) z) e)) in
     ap (λ b. if b then v else clobbered target n w trash r) other ∙ ap (λ k. if nat_lt r n && not k then trash else w r) e ∙ by (nat_lt r n)
@@ -58,12 +58,12 @@ choice-keeps false x y q r h k = k
 riscv64-keeps : (name : HostName) (trash : ℕ) (q : CpuState) (r : ℕ) → is_kept Riscv64 r ≡ true → Keeps (rv.enter_host name trash q) q r
 riscv64-keeps name trash q r e =
     choice-keeps (q.registers 2 % 16 == 0) _ _ q r
-    (returned-keeps (answer_at Riscv64 name (q.registers 2) q) _ _ _ q r (λ v. behind-keeps Riscv64 32 q.registers trash v r e)) refl
+    (returned-keeps (answer_at Riscv64 name (q.registers 2) q) _ _ _ q r (λ v. after-keeps Riscv64 32 q.registers trash v r e)) refl
 
 aarch64-keeps : (name : HostName) (trash : ℕ) (q : CpuState) (r : ℕ) → is_kept Aarch64 r ≡ true → Keeps (a64.enter_host name trash q) q r
 aarch64-keeps name trash q r e =
     choice-keeps (q.registers 31 % 16 == 0) _ _ q r
-    (returned-keeps (answer_at Aarch64 name (q.registers 31) q) _ _ _ q r (λ v. behind-keeps Aarch64 32 q.registers trash v r e)) refl
+    (returned-keeps (answer_at Aarch64 name (q.registers 31) q) _ _ _ q r (λ v. after-keeps Aarch64 32 q.registers trash v r e)) refl
 
 put-other : (w : ℕ → ℕ) (to v r : ℕ) → r ≢ to → put w to v r ≡ w r
 put-other w to v r ne = ap (λ b. if b then v else w r) (false_from_ne_true (r == to) (λ z. ne (same-number r to z)))
@@ -72,7 +72,7 @@ x86-enters : (name : HostName) (trash : ℕ) (q : CpuState) (r : ℕ) → is_kep
 x86-enters name trash q r e ne None = refl
 x86-enters name trash q r e ne (Some link) =
     returned-keeps (answer_at X86_64 name (add_words (q.registers 4) 8) q) link _ _ q r
-    (λ v. put-other (behind_call X86_64 16 q.registers trash v) 4 (add_words (q.registers 4) 8) r ne ∙ behind-keeps X86_64 16 q.registers trash v r e)
+    (λ v. put-other (after_call X86_64 16 q.registers trash v) 4 (add_words (q.registers 4) 8) r ne ∙ after-keeps X86_64 16 q.registers trash v r e)
 
 x86-keeps : (name : HostName) (trash : ℕ) (q : CpuState) (r : ℕ) → is_kept X86_64 r ≡ true → r ≢ 4 → Keeps (x86.enter_host name trash q) q r
 x86-keeps name trash q r e ne =

@@ -17,7 +17,7 @@ use Rattle.lg_node.specs.Shapes.{IsShapeOf, IsSuccessor, GoesBy, Way, Next, way_
 use Rattle.lg_live.specs.RegSets.{has}
 use Rattle.lg_live.specs.Uses.{is_read, is_written}
 use Rattle.lg_live.specs.declared.reg_set.RegSet.{RegSet}
-use Rattle.lg_live.specs.Liveness.{IsLive, IsLiveBehind, LiveSets, AreLive}
+use Rattle.lg_live.specs.Liveness.{IsLive, IsLiveAfter, LiveSets, AreLive}
 use Rattle.lg_live.specs.Liveness as live
 use Rattle.lg_op.specs.Operands.{number_of}
 use Rattle.lg_meaning.specs.States.{State}
@@ -70,16 +70,16 @@ module _ (c : Code) (sets : LiveSets) (are : AreLive c.nodes c.shape sets) where
       let never : false ≡ true = sym (ap (λ (x : RegSet). has x q) (get_or_past sets.before i (record { 0 = 0 }) le)) ∙ e in
       cc
 
-  behind_past : (i : ℕ) (q : Reg) → length sets.behind ≤ i → has (get_or sets.behind i (record { 0 = 0 })) q ≡ true → ⊥
-  behind_past i q le e =
+  after_past : (i : ℕ) (q : Reg) → length sets.behind ≤ i → has (get_or sets.behind i (record { 0 = 0 })) q ≡ true → ⊥
+  after_past i q le e =
       let never : false ≡ true = sym (ap (λ (x : RegSet). has x q) (get_or_past sets.behind i (record { 0 = 0 }) le)) ∙ e in
       cc
 
   before_is : (i : ℕ) (q : Reg) → i < length c.nodes.nodes → (has (get_or sets.before i (record { 0 = 0 })) q ≡ true) ↔ IsLive c.nodes c.shape q i
   before_is i q lt = are.before i (get_or sets.before i (record { 0 = 0 })) (slice_get-get_or sets.before i (record { 0 = 0 }) (omega (arith, are.before_count))) q
 
-  behind_is : (i : ℕ) (q : Reg) → i < length c.nodes.nodes → (has (get_or sets.behind i (record { 0 = 0 })) q ≡ true) ↔ IsLiveBehind c.nodes c.shape q i
-  behind_is i q lt = are.behind i (get_or sets.behind i (record { 0 = 0 })) (slice_get-get_or sets.behind i (record { 0 = 0 }) (omega (arith, are.behind_count))) q
+  after_is : (i : ℕ) (q : Reg) → i < length c.nodes.nodes → (has (get_or sets.behind i (record { 0 = 0 })) q ≡ true) ↔ IsLiveAfter c.nodes c.shape q i
+  after_is i q lt = are.behind i (get_or sets.behind i (record { 0 = 0 })) (slice_get-get_or sets.behind i (record { 0 = 0 }) (omega (arith, are.after_count))) q
 
   -- what is live before node i, where it is there
   live_here : (i : ℕ) (q : Reg) → has (get_or sets.before i (record { 0 = 0 })) q ≡ true → (i < length c.nodes.nodes) × IsLive c.nodes c.shape q i
@@ -99,7 +99,7 @@ module _ (c : Code) (sets : LiveSets) (are : AreLive c.nodes c.shape sets) where
       by true r e = (before_is i q lt).1 (live.read_here i n here r)
       by false r e =
           let parts = and_parts (has (get_or sets.behind i (record { 0 = 0 })) q) (not (is_written n q)) e in
-          let b = (behind_is i q lt).0 parts.0 in
+          let b = (after_is i q lt).0 parts.0 in
           (before_is i q lt).1 (live.kept_to i b.next n here (not-true (is_written n q) parts.1) b.successor b.live)
 
   reads_at : (i : ℕ) (n : Node) → slice_get c.nodes.nodes i ≡ Some n → (r : ℕ) → r < 6 → live_before n (live_at sets.behind i) r ≡ true → live_at sets.before i r ≡ true
@@ -125,13 +125,13 @@ module _ (c : Code) (sets : LiveSets) (are : AreLive c.nodes c.shape sets) where
       let lt = slice_get_within c.nodes.nodes s.at n here in
       let form : InForm n = subst InForm (get_or_from_slice_get c.nodes.nodes s.at n n here) (All-get_or InForm c.nodes.nodes s.at n lt formed) in
       ⊎_elim
-      (λ (succ : IsSuccessor c.nodes c.shape s.at t.at). inl (x.1.is (has (get_or sets.behind s.at (record { 0 = 0 }))) ∙ (behind_is s.at q lt).1 record { next = t.at; successor = succ; live = h.1 }))
+      (λ (succ : IsSuccessor c.nodes c.shape s.at t.at). inl (x.1.is (has (get_or sets.behind s.at (record { 0 = 0 }))) ∙ (after_is s.at q lt).1 record { next = t.at; successor = succ; live = h.1 }))
       (λ (none : (k : ℕ) → t.regs k ≡ None). inr (none r))
       (reaches c.nodes c.shape c.addresses s t n bytes is form here returns e h.0)
 
   -- after a call
-  call_behind : (i : ℕ) (n : Node) (q : Reg) → slice_get c.nodes.nodes i ≡ Some n → way_of n.op ≡ Next → IsLiveBehind c.nodes c.shape q i → (i + 1 < length c.nodes.nodes) × IsLive c.nodes c.shape q (i + 1)
-  call_behind i n q here e b =
+  call_after : (i : ℕ) (n : Node) (q : Reg) → slice_get c.nodes.nodes i ≡ Some n → way_of n.op ≡ Next → IsLiveAfter c.nodes c.shape q i → (i + 1 < length c.nodes.nodes) × IsLive c.nodes c.shape q (i + 1)
+  call_after i n q here e b =
       let same : b.successor.node ≡ n = same_Some b.successor.node n (sym b.successor.here ∙ here) in
       let way : way_of b.successor.node.op ≡ Next = ap (λ (m : Node). way_of m.op) same ∙ e in
       let g : (b.next ≡ i + 1) × (b.next < length c.nodes.nodes) = subst (λ (w : Way). GoesBy c.nodes c.shape i b.successor.node w b.next) way b.successor.goes in
@@ -145,11 +145,11 @@ module _ (c : Code) (sets : LiveSets) (are : AreLive c.nodes c.shape sets) where
       (λ e.
       let x = reg_at r (has (get_or sets.before (i + 1) (record { 0 = 0 }))) e in
       let h = live_here (i + 1) x.0 (sym (x.1.is (has (get_or sets.before (i + 1) (record { 0 = 0 })))) ∙ e) in
-      x.1.is (has (get_or sets.behind i (record { 0 = 0 }))) ∙ (behind_is i x.0 lt).1 record { next = i + 1; successor = record { node = n; here = here; goes = subst (λ (w : Way). GoesBy c.nodes c.shape i n w (i + 1)) (sym way) (refl, h.0) }; live = h.1 })
+      x.1.is (has (get_or sets.behind i (record { 0 = 0 }))) ∙ (after_is i x.0 lt).1 record { next = i + 1; successor = record { node = n; here = here; goes = subst (λ (w : Way). GoesBy c.nodes c.shape i n w (i + 1)) (sym way) (refl, h.0) }; live = h.1 })
       (λ e.
       let x = reg_at r (has (get_or sets.behind i (record { 0 = 0 }))) e in
-      let b = (behind_is i x.0 lt).0 (sym (x.1.is (has (get_or sets.behind i (record { 0 = 0 })))) ∙ e) in
-      let h = call_behind i n x.0 here way b in
+      let b = (after_is i x.0 lt).0 (sym (x.1.is (has (get_or sets.behind i (record { 0 = 0 })))) ∙ e) in
+      let h = call_after i n x.0 here way b in
       x.1.is (has (get_or sets.before (i + 1) (record { 0 = 0 }))) ∙ (before_is (i + 1) x.0 h.0).1 h.1)
 
 pub liveness : StepsReachSuccessors → LiveSetsAreLiveness

@@ -12,7 +12,7 @@ use Rattle.lg_op.specs.declared.operand.Reg.TheVariants.{V0, V1, V2}
 use Rattle.lg_carry.specs.FinalNodes.{Code}
 use Rattle.lg_carry.specs.NodeCode.{numbered, IsLiveness, SavesLive}
 use Rattle.lg_asm.specs.CarriedLiveness.{live_at}
-use Rattle.lg_asm.specs.NodeChoices.{set_behind}
+use Rattle.lg_asm.specs.NodeChoices.{set_after}
 use Rattle.lg_asm.specs.Lowered.{saves_for, saves_by, saves_in, frame_saves, AreDeadFrom, FramesSaveFew}
 
 -- a register that is live is among the first ones
@@ -34,18 +34,18 @@ for-set set (suc (suc zero)) lt h = among (has set V2) (has set V1) (has set V0)
 for-set set (suc (suc (suc v))) lt h = absurd (omega (arith, lt))
 
 -- what one node asks for is saved
-within : (nodes : List Node) (sets : LiveSets) (i count : ℕ) → i < count → saves_by (slice_get nodes i) (set_behind sets i) ≤ saves_in nodes sets count
+within : (nodes : List Node) (sets : LiveSets) (i count : ℕ) → i < count → saves_by (slice_get nodes i) (set_after sets i) ≤ saves_in nodes sets count
 unfolding saves_in
 within nodes sets i zero lt = absurd (omega (arith, lt))
 within nodes sets i (suc count) lt =
     ⊎_elim
     (λ (less : i < count). let more = within nodes sets i count less in omega (arith, more))
     (λ (ge : count ≤ i). let e : i ≡ count = omega (arith, lt, ge) in
-    let same = ap (λ j. saves_by (slice_get nodes j) (set_behind sets j)) e in omega (arith, same))
+    let same = ap (λ j. saves_by (slice_get nodes j) (set_after sets j)) e in omega (arith, same))
     (cases_lt i count)
 
 pub one-more : (nodes : List Node) (sets : LiveSets) (i : ℕ)
-    → saves_in nodes sets (i + 1) ≡ max (saves_in nodes sets i) (saves_by (slice_get nodes i) (set_behind sets i))
+    → saves_in nodes sets (i + 1) ≡ max (saves_in nodes sets i) (saves_by (slice_get nodes i) (set_after sets i))
 unfolding saves_in
 one-more nodes sets i = let z : i + 1 ≡ suc i = omega arith in ap (saves_in nodes sets) z
 
@@ -61,9 +61,9 @@ saves-live c nodes sets saved first calls live f i m back here is v lt l =
     let n = calls i m here is in
     let behind : live_at sets.behind i (v + 3) ≡ true =
     sym (live.calls i m here is (v + 3)) ∙ ap (λ j. live_at sets.before j (v + 3)) (sym back) ∙ l in
-    let own = for-set (set_behind sets i) v lt behind in
-    let by : saves_by (slice_get nodes i) (set_behind sets i) ≡ saves_for (set_behind sets i) =
-    ap (λ o. saves_by o (set_behind sets i)) n.1 ∙ ap (λ b. if b then saves_for (set_behind sets i) else 0) n.2 in
+    let own = for-set (set_after sets i) v lt behind in
+    let by : saves_by (slice_get nodes i) (set_after sets i) ≡ saves_for (set_after sets i) =
+    ap (λ o. saves_by o (set_after sets i)) n.1 ∙ ap (λ b. if b then saves_for (set_after sets i) else 0) n.2 in
     let all = within nodes sets i (length nodes) (slice_get_within nodes i n.0 n.1) in
     (omega (arith, own, by, all, saved), omega (arith, lt, first))
 
@@ -91,7 +91,7 @@ unfolding saves_in
 in-few nodes sets k zero h = omega arith
 in-few nodes sets k (suc i) h =
     let before = in-few nodes sets k i h in
-    let here = by-few (slice_get nodes i) (set_behind sets i) k (λ n e. h i n e) in omega (arith, before, here)
+    let here = by-few (slice_get nodes i) (set_after sets i) k (λ n e. h i n e) in omega (arith, before, here)
 
 pub frames-save-few : FramesSaveFew
 frames-save-few nodes sets k h = in-few nodes sets k (length nodes) h

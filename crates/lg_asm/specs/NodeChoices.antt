@@ -20,11 +20,11 @@ use Rattle.lg_temp.specs.declared.choice.Choice.TheVariants.{Spill}
 use Rattle.lg_temp.specs.declared.choice.Need.{Need}
 
 -- the set of the registers that are live after a node; a node that is not there has none
-abbrev pub set_behind : LiveSets → ℕ → RegSet
-set_behind sets i = slice_index_or sets.behind i (record { 0 = 0 })
+abbrev pub set_after : LiveSets → ℕ → RegSet
+set_after sets i = slice_index_or sets.behind i (record { 0 = 0 })
 
 abbrev pub live_behind : LiveSets → ℕ → Reg → Bool
-live_behind sets i = has (set_behind sets i)
+live_behind sets i = has (set_after sets i)
 
 -- what the temporaries of a node's code need on a target
 abbrev pub needs_on : Target → Op → List Need

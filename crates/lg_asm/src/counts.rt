@@ -2,13 +2,13 @@
 
 ghost use Rattle.std.specs.Prelude.{◌≡◌, ◌≤◌, Some, ◌<◌, length, count_by, IfOk};
 ghost use Rattle.lg_asm.specs.Assembled.{ArePushed};
-ghost use Rattle.lg_asm.specs.NodeChoices.{needs_on, node_choices, choices_at, set_behind, is_spill, spills_of, spills_in};
+ghost use Rattle.lg_asm.specs.NodeChoices.{needs_on, node_choices, choices_at, set_after, is_spill, spills_of, spills_in};
 ghost use Rattle.lg_base.specs.declared.target.Target.{Target};
 ghost use Rattle.lg_live.specs.RegSets.{has};
 ghost use Rattle.lg_node.specs.Checks.{IsAccepted};
 ghost use Rattle.lg_node.specs.Preparations.{pushed};
 
-use crate::node::{first, pushed_behind};
+use crate::node::{first, pushed_after};
 use lg_base::{OutOfMemory, Target};
 use lg_live::{Live, RegSet};
 use lg_node::NodeList;
@@ -18,9 +18,9 @@ use lg_temp::{Choice, Choices, Needs};
 use std::alloc::Global;
 
 /// Returns the registers that are live after a node.
-pub(crate) fn set_behind(live: &Live, index: u32) -> RegSet
+pub(crate) fn set_after(live: &Live, index: u32) -> RegSet
     requires { index < length live.now.behind }
-    ensures { result ≡ set_behind live.now index }
+    ensures { result ≡ set_after live.now index }
 {
     live.after(index)
 }
@@ -70,7 +70,7 @@ fn saved_by(nodes: &NodeList, live: &Live, target: Target, index: u32, passed: u
     requires few { passed ≤ 16 }
     ensures { result ≡ spills_of (choices_at target nodes.now.nodes live.now index) }
 {
-    let live_after = set_behind(live, index);
+    let live_after = set_after(live, index);
     let choices = node_choices(target, &nodes.node(index), live_after, passed);
     spills(choices.as_slice())
 }
@@ -121,7 +121,7 @@ pub(crate) fn counted(
         };
         list.push(passed as u8)?;
         saved = more;
-        passed = pushed_behind(passed, nodes.node(index).op);
+        passed = pushed_after(passed, nodes.node(index).op);
     }
     Ok(Counts {
         passed: list,

@@ -13,7 +13,7 @@ use Rattle.lg_list.specs.Lines.Entry.{Label, Node, Code}
 use Rattle.lg_list.specs.Back.{IsEntry, Back}
 use Rattle.lg_list.proofs.BackLemmas.{joined-append, rendered-append}
 use Rattle.lg_list.proofs.TextLemmas.{length-hex}
-use Rattle.lg_back.specs.Reading.{HasHead, HasLine, HasNoLine, HasLines, address_behind}
+use Rattle.lg_back.specs.Reading.{HasHead, HasLine, HasNoLine, HasLines, address_after}
 use Rattle.lg_back.specs.Refused.{IsBadListing}
 use Rattle.lg_back.proofs.LineLemmas.{head-one, line-one}
 
@@ -29,13 +29,13 @@ code-long : (a h t : List ℕ) (n : ℕ) → length h ≡ 2 * n → 2 * n + 1 �
 code-long a h t n e =
     omega (arith, e, length-append a (codes "  "), length-append (a ++ codes "  ") h, length-append (a ++ codes "  " ++ h) (codes "  "), length-append (a ++ codes "  " ++ h ++ codes "  ") t, length-append (a ++ codes "  " ++ h ++ codes "  " ++ t) (codes "\n"))
 
-some-behind : (a b : List ℕ) → 0 < length b → 2 * 0 + 1 ≤ length (a ++ b)
-some-behind a b some = omega (arith, length-append a b)
+some-after : (a b : List ℕ) → 0 < length b → 2 * 0 + 1 ≤ length (a ++ b)
+some-after a b some = omega (arith, length-append a b)
 
 -- a line has two digits for each of its bytes, and a line feed
 pub line-long : (at : ℕ) (e : Entry) → 2 * length (bytes_of e) + 1 ≤ length (line_of at e)
-line-long at (Label word) = some-behind (address at ++ codes " " ++ word) (codes ":\n") (omega arith)
-line-long at (Node line op) = some-behind (codes "; " ++ decimal line ++ codes " " ++ name op) (codes "\n") (omega arith)
+line-long at (Label word) = some-after (address at ++ codes " " ++ word) (codes ":\n") (omega arith)
+line-long at (Node line op) = some-after (codes "; " ++ decimal line ++ codes " " ++ name op) (codes "\n") (omega arith)
 line-long at (Code i) = code-long (address at) (hex (spelling i)) (text_of at i) (length (spelling i)) (length-hex (spelling i))
 
 nothing : {X : Type 0} (xs ys : List X) → 0 < length xs → [] ≡ xs ++ ys → ⊥
@@ -48,19 +48,19 @@ nil-none t at e h = nothing (line_of at e) h.rest (omega (arith, line-long at e)
 
 -- ---- one line more
 
-pub address-more : (lines : List Entry) (e : Entry) → address_behind (lines ++ e ∷ []) ≡ address_behind lines + length (bytes_of e)
+pub address-more : (lines : List Entry) (e : Entry) → address_after (lines ++ e ∷ []) ≡ address_after lines + length (bytes_of e)
 address-more lines e = let l = ap length (joined-append lines (e ∷ [])) in omega (arith, l, length-append (joined lines) (bytes_of e ++ []), length-append (bytes_of e) [])
 
 pub lines-none : (text : List ℕ) (t : Target) (count : ℕ) → (h : HasHead text t count) → HasLines text t count [] h.rest
 lines-none text t count h = record { form = All-nil (IsEntry t); text_is = h.text_is; small = h.small }
 
-pub lines-more : (text : List ℕ) (t : Target) (count : ℕ) (lines : List Entry) (rest : List ℕ) (e : Entry) → HasLines text t count lines rest → (h : HasLine t (address_behind lines) rest e) → HasLines text t count (lines ++ e ∷ []) h.rest
+pub lines-more : (text : List ℕ) (t : Target) (count : ℕ) (lines : List Entry) (rest : List ℕ) (e : Entry) → HasLines text t count lines rest → (h : HasLine t (address_after lines) rest e) → HasLines text t count (lines ++ e ∷ []) h.rest
 lines-more text t count lines rest e s h = record {
   form = All-append (IsEntry t) lines (e ∷ []) s.form (All-cons (IsEntry t) e [] h.form (All-nil (IsEntry t)));
   text_is = s.text_is ∙ ap (λ x. first_line t count ++ x)
       (ap (λ x. rendered code_base lines ++ x) h.text_is
-      ∙ sym (append_assoc (rendered code_base lines) (line_of (address_behind lines) e) h.rest)
-      ∙ ap (λ x. x ++ h.rest) (sym (rendered-append code_base lines (e ∷ []) ∙ ap (λ x. rendered code_base lines ++ x) (append-nil (line_of (address_behind lines) e)))));
+      ∙ sym (append_assoc (rendered code_base lines) (line_of (address_after lines) e) h.rest)
+      ∙ ap (λ x. x ++ h.rest) (sym (rendered-append code_base lines (e ∷ []) ∙ ap (λ x. rendered code_base lines ++ x) (append-nil (line_of (address_after lines) e)))));
   small = s.small;
 }
 
@@ -78,8 +78,8 @@ here t at text e es more form is = record { form = form; rest = rendered (at + l
 at-once : (t : Target) (at n : ℕ) (text : List ℕ) → n ≡ 0 → HasNoLine t (at + n) text → HasNoLine t at text
 at-once t at n text e none = let same : at + n ≡ at = omega arith in subst (λ a. HasNoLine t a text) same none
 
-behind-it : (t : Target) (at : ℕ) (bs cs text : List ℕ) → HasNoLine t (at + length (bs ++ cs)) text → HasNoLine t (at + length bs + length cs) text
-behind-it t at bs cs text none = let same : at + length (bs ++ cs) ≡ at + length bs + length cs = omega (arith, length-append bs cs) in subst (λ a. HasNoLine t a text) same none
+after-it : (t : Target) (at : ℕ) (bs cs text : List ℕ) → HasNoLine t (at + length (bs ++ cs)) text → HasNoLine t (at + length bs + length cs) text
+after-it t at bs cs text none = let same : at + length (bs ++ cs) ≡ at + length bs + length cs = omega (arith, length-append bs cs) in subst (λ a. HasNoLine t a text) same none
 
 parse-one : (t : Target) (at : ℕ) (text : List ℕ) (es fs : List Entry) (more rest : List ℕ) → All (IsEntry t) es → All (IsEntry t) fs
     → text ≡ rendered at es ++ more → text ≡ rendered at fs ++ rest → HasNoLine t (at + length (joined es)) more → HasNoLine t (at + length (joined fs)) rest → AreSame es fs more rest
@@ -92,8 +92,8 @@ parse-one t at text (x ∷ xs) (y ∷ ys) more rest a b e f m r =
     let alike = line-one t at text x y g h in
     let len : length (bytes_of y) ≡ length (bytes_of x) = ap length (sym alike.bytes) in
     let second : g.rest ≡ rendered (at + length (bytes_of x)) ys ++ rest = alike.rests ∙ ap (λ n. rendered (at + n) ys ++ rest) len in
-    let last : HasNoLine t (at + length (bytes_of x) + length (joined ys)) rest = subst (λ n. HasNoLine t (at + n + length (joined ys)) rest) len (behind-it t at (bytes_of y) (joined ys) rest r) in
-    let tail = parse-one t (at + length (bytes_of x)) g.rest xs ys more rest (All-tail (IsEntry t) x xs a) (All-tail (IsEntry t) y ys b) refl second (behind-it t at (bytes_of x) (joined xs) more m) last in
+    let last : HasNoLine t (at + length (bytes_of x) + length (joined ys)) rest = subst (λ n. HasNoLine t (at + n + length (joined ys)) rest) len (after-it t at (bytes_of y) (joined ys) rest r) in
+    let tail = parse-one t (at + length (bytes_of x)) g.rest xs ys more rest (All-tail (IsEntry t) x xs a) (All-tail (IsEntry t) y ys b) refl second (after-it t at (bytes_of x) (joined xs) more m) last in
     record { bytes = ap₂ (λ u v. u ++ v) alike.bytes tail.bytes; count = ap suc tail.count; rests = tail.rests }
 
 head-of : (text : List ℕ) (t : Target) (n : ℕ) (lines : List Entry) (rest : List ℕ) → HasLines text t n lines rest → HasHead text t n
@@ -106,17 +106,17 @@ pub record AreOne (t u : Target) (n m : ℕ) (es fs : List Entry) (more rest : L
   pub lines : AreSame es fs more rest
 
 same-target : (text : List ℕ) (t : Target) (n m : ℕ) (es fs : List Entry) (more rest : List ℕ) → n ≡ m → HasLines text t n es more → HasLines text t m fs rest
-    → HasNoLine t (address_behind es) more → HasNoLine t (address_behind fs) rest → AreSame es fs more rest
+    → HasNoLine t (address_after es) more → HasNoLine t (address_after fs) rest → AreSame es fs more rest
 same-target text t n m es fs more rest same g h a b =
     parse-one t code_base (rendered code_base es ++ more) es fs more rest g.form h.form refl
     (append_cancel_left (first_line t m) (rendered code_base es ++ more) (rendered code_base fs ++ rest) (ap (λ k. first_line t k ++ (rendered code_base es ++ more)) (sym same) ∙ sym g.text_is ∙ h.text_is)) a b
 
 pub lines-one : (text : List ℕ) (t u : Target) (n m : ℕ) (es fs : List Entry) (more rest : List ℕ) → HasLines text t n es more → HasLines text u m fs rest
-    → HasNoLine t (address_behind es) more → HasNoLine u (address_behind fs) rest → AreOne t u n m es fs more rest
+    → HasNoLine t (address_after es) more → HasNoLine u (address_after fs) rest → AreOne t u n m es fs more rest
 lines-one text t u n m es fs more rest g h a b =
     let one = head-one text t u n m (head-of text t n es more g) (head-of text u m fs rest h) in
     let same : HasLines text t m fs rest = subst (λ v. HasLines text v m fs rest) (sym one.0) h in
-    let none : HasNoLine t (address_behind fs) rest = subst (λ v. HasNoLine v (address_behind fs) rest) (sym one.0) b in
+    let none : HasNoLine t (address_after fs) rest = subst (λ v. HasNoLine v (address_after fs) rest) (sym one.0) b in
     record { target = one.0; number = one.1; lines = same-target text t n m es fs more rest one.1 g same a none }
 
 -- ---- listings

@@ -8,7 +8,7 @@ use Rattle.lg_list.specs.Texts.{decimal}
 use Rattle.lg_list.specs.Lines.{Entry, target_word, first_line, line_of, bytes_of, rendered, joined}
 use Rattle.lg_list.specs.Back.{Back}
 use Rattle.lg_list.proofs.BackLemmas.{joined-append}
-use Rattle.lg_back.specs.Reading.{HasHead, HasLine, HasNoLine, HasLines, address_behind}
+use Rattle.lg_back.specs.Reading.{HasHead, HasLine, HasNoLine, HasLines, address_after}
 use Rattle.lg_back.specs.Refused.{IsBadListing}
 use Rattle.lg_back.proofs.ListLemmas.{line-long, lines-none, lines-more}
 
@@ -47,9 +47,9 @@ read-begins text t count items room at h place none all =
     }
 
 -- the line that is read next, where the lines before it end
-next-line : (text : List ℕ) (t : Target) (at done : ℕ) (lines : List Entry) (e : Entry) → done ≡ length (joined lines) → (h : HasLine t (code_base + done) (drop at text) e) → HasLine t (address_behind lines) (drop at text) e
+next-line : (text : List ℕ) (t : Target) (at done : ℕ) (lines : List Entry) (e : Entry) → done ≡ length (joined lines) → (h : HasLine t (code_base + done) (drop at text) e) → HasLine t (address_after lines) (drop at text) e
 next-line text t at done lines e is h =
-    let there : code_base + done ≡ address_behind lines = omega (arith, is) in
+    let there : code_base + done ≡ address_after lines = omega (arith, is) in
     subst (λ a. HasLine t a (drop at text) e) there h
 
 rest-of : (t : Target) (a : ℕ) (text : List ℕ) (at len : ℕ) (e : Entry) → (h : HasLine t a (drop at text) e) → len ≡ length (line_of a e) → h.rest ≡ drop (at + len) text
@@ -84,9 +84,9 @@ pub read-goes : (text : List ℕ) (t : Target) (count : ℕ) (items news : List 
 read-goes text t count items news room left at line done len own r n kept rooms =
     let e = n.entry in
     let h = next-line text t at done r.lines e r.bytes n.line in
-    let there : code_base + done ≡ address_behind r.lines = omega (arith, r.bytes) in
-    let len_is : len ≡ length (line_of (address_behind r.lines) e) = n.len_is ∙ ap (λ a. length (line_of a e)) there in
-    let rest : h.rest ≡ drop (at + len) text = rest-of t (address_behind r.lines) text at len e h len_is in
+    let there : code_base + done ≡ address_after r.lines = omega (arith, r.bytes) in
+    let len_is : len ≡ length (line_of (address_after r.lines) e) = n.len_is ∙ ap (λ a. length (line_of a e)) there in
+    let rest : h.rest ≡ drop (at + len) text = rest-of t (address_after r.lines) text at len e h len_is in
     let half = half-of text t count items room at line done len own r n in
     let own_is : length own ≡ length (bytes_of e) = ap length n.own_is in
     let all : joined (r.lines ++ e ∷ []) ≡ joined r.lines ++ own = joined-append r.lines (e ∷ []) ∙ ap (λ x. joined r.lines ++ x) (append-nil (bytes_of e) ∙ sym n.own_is) in
@@ -107,7 +107,7 @@ read-goes text t count items news room left at line done len own r n kept rooms 
 -- where no line begins
 pub read-bad : (text : List ℕ) (t : Target) (count : ℕ) (items : List ℕ) (room at line done : ℕ) → IsRead text t count items room at line done → at < length text → HasNoLine t (code_base + done) (drop at text) → IsBadListing text line
 read-bad text t count items room at line done r lt none =
-    let there : code_base + done ≡ address_behind r.lines = omega (arith, r.bytes) in
+    let there : code_base + done ≡ address_after r.lines = omega (arith, r.bytes) in
     inr (inl (record {
       t = t;
       count = count;

@@ -116,9 +116,9 @@ word-begins (b ∷ bs) more rest e f =
 -- ---- a line of two words
 
 -- what is after a word and the byte that ends it
-behind-word : (byte : ℕ) (xs more : List ℕ) → drop (length xs + 1) (xs ++ byte ∷ more) ≡ more
-behind-word byte [] more = refl
-behind-word byte (x ∷ xs) more = let e : length (x ∷ xs) + 1 ≡ suc (length xs + 1) = omega arith in ap (λ n. drop n (x ∷ (xs ++ byte ∷ more))) e ∙ behind-word byte xs more
+after-word : (byte : ℕ) (xs more : List ℕ) → drop (length xs + 1) (xs ++ byte ∷ more) ≡ more
+after-word byte [] more = refl
+after-word byte (x ∷ xs) more = let e : length (x ∷ xs) + 1 ≡ suc (length xs + 1) = omega arith in ap (λ n. drop n (x ∷ (xs ++ byte ∷ more))) e ∙ after-word byte xs more
 
 regroup : (a b more : List ℕ) → (codes "; " ++ a ++ codes " " ++ b ++ codes "\n") ++ more ≡ 59 ∷ 32 ∷ (a ++ 32 ∷ (b ++ 10 ∷ more))
 regroup a b more = simp append_assoc
@@ -129,5 +129,5 @@ two-words a b more text fa fb e =
     let whole : text ≡ 59 ∷ 32 ∷ (a ++ 32 ∷ (b ++ 10 ∷ more)) = e ∙ regroup a b more in
     let first : first_word text ≡ a = ap first_word whole ∙ until-front 32 a (b ++ 10 ∷ more) fa in
     let rest : drop (length (first_word text) + 1) (drop 2 text) ≡ b ++ 10 ∷ more =
-    ap (λ w. drop (length w + 1) (drop 2 text)) first ∙ ap (λ t. drop (length a + 1) (drop 2 t)) whole ∙ behind-word 32 a (b ++ 10 ∷ more) in
+    ap (λ w. drop (length w + 1) (drop 2 text)) first ∙ ap (λ t. drop (length a + 1) (drop 2 t)) whole ∙ after-word 32 a (b ++ 10 ∷ more) in
     (first, ap (until 10) rest ∙ until-front 10 b more fb)

@@ -45,5 +45,5 @@ pub record HasLines (text : List ℕ) (t : Target) (count : ℕ) (lines : List E
   pub small : count ≤ most_code
 
 -- the address of the line after these
-abbrev pub address_behind : List Entry → ℕ
-address_behind lines = code_base + length (joined lines)
+abbrev pub address_after : List Entry → ℕ
+address_after lines = code_base + length (joined lines)

@@ -2,7 +2,7 @@
 use Rattle.std.specs.Prelude.{◌≡◌, ℕ, ◌+◌, ◌<◌, ◌⊎◌, List, [], length}
 use Rattle.lg_base.specs.declared.target.Target.{Target}
 use Rattle.lg_list.specs.Lines.{Entry, joined}
-use Rattle.lg_back.specs.Reading.{HasHead, HasNoLine, HasLines, address_behind}
+use Rattle.lg_back.specs.Reading.{HasHead, HasNoLine, HasLines, address_after}
 
 -- it begins with no first line of a listing; so does the empty text
 pub record HasNoHead (text : List ℕ) (line : ℕ) : Type 0 where
@@ -17,7 +17,7 @@ pub record HasBadLine (text : List ℕ) (line : ℕ) : Type 0 where
   pub rest : List ℕ
   pub front : HasLines text t count lines rest
   pub some : 0 < length rest
-  pub none : HasNoLine t (address_behind lines) rest
+  pub none : HasNoLine t (address_after lines) rest
   pub line_is : line ≡ length lines + 2
 
 -- all its lines are of the form, and the first names another number of bytes than they have

@@ -185,30 +185,30 @@ impl RefusalKind {
                 "no token begins here; operands have no commas, comments are // and /* */"
             }
             RefusalKind::UnknownName => {
-                "a word is no statement here: it is misspelt, a label without its colon, or a macro that is not defined, or it stands in the wrong part"
+                "a word is no statement here: it is misspelt, a label without its colon, or a macro that is not defined, or it is in the wrong part"
             }
             RefusalKind::FloatRefused => {
-                "there is no floating point; a name with a part f or d behind a _ is taken for it"
+                "there is no floating point; a name with a part f or d after a _ is taken for it"
             }
             RefusalKind::BadOperand => {
                 "an operand is missing, or is none that its place takes; registers are %r0 %r1 %r2 %v0 %v1 %v2 %fp, and %fp is never written"
             }
             RefusalKind::BadExpr => {
-                "an expression has no value; words have none there, and each of its operands is worked out"
+                "an expression has no value; words have none there, and each of its operands is computed"
             }
             RefusalKind::LabelTwice => "a label, or a name of the function, is made a second time",
-            RefusalKind::LabelMissing => "a label is named that stands nowhere",
+            RefusalKind::LabelMissing => "a label is named that is bound nowhere",
             RefusalKind::NotInFunction => {
-                "an instruction stands outside of every function, which go from a prolog to an epilog"
+                "an instruction is outside of every function, which go from a prolog to an epilog"
             }
             RefusalKind::FunctionOpen => {
                 "a function has no epilog before the next prolog or the end of the text"
             }
             RefusalKind::TargetOutside => {
-                "a jump leaves its function, a call goes to no prolog, or a code label stands as a number where movi, pushargi and reti alone take one"
+                "a jump leaves its function, a call goes to no prolog, or a code label is used as a number where movi, pushargi and reti alone take one"
             }
             RefusalKind::BadCall => {
-                "pushes and a finish stand behind a prepare, with no branch, jump, other call, return or label between; one ellipsis, and the args in front of it"
+                "pushes and a finish come after a prepare, with no branch, jump, other call, return or label between; one ellipsis, and the args before it"
             }
             RefusalKind::TooManyArgs => "a function or a call has more than 16 arguments",
             RefusalKind::NoSuchArg => {

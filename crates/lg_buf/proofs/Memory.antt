@@ -50,11 +50,11 @@ module _ {M : Type 1} {𝓤 : Ura M} (𝓛 : Logic 𝓤) (b : ℕ) where
       qed 𝓛 (‵ (bytes (y ∷ ys) o) ∷ ‵ (byte x (place 1 (o + 1) (length ys))) ∷ []) ∵ fsplit ! $ move ! (1 ∷ 2 ∷ []) $
       use2 𝓛 (‵ (bytes (ys ++ x ∷ []) (o + 1))) (behind ys x (o + 1)) $ move ! (1 ∷ 0 ∷ []) $ fjoin ! $ done !
 
-  pub behind_all : (xs ys : List ℕ) (o : ℕ) → ent 𝓤 (⋆ 𝓛 (‵ (bytes xs o) ∷ ‵ (bytes ys (place 1 o (length xs))) ∷ [])) (⋆ 𝓛 (‵ (bytes (xs ++ ys) o) ∷ []))
-  behind_all [] ys o = qed 𝓛 (‵ (bytes [] o) ∷ ‵ (bytes ys o) ∷ []) ∵ drop ! $ done !
-  behind_all (x ∷ xs) ys o =
+  pub after_all : (xs ys : List ℕ) (o : ℕ) → ent 𝓤 (⋆ 𝓛 (‵ (bytes xs o) ∷ ‵ (bytes ys (place 1 o (length xs))) ∷ [])) (⋆ 𝓛 (‵ (bytes (xs ++ ys) o) ∷ []))
+  after_all [] ys o = qed 𝓛 (‵ (bytes [] o) ∷ ‵ (bytes ys o) ∷ []) ∵ drop ! $ done !
+  after_all (x ∷ xs) ys o =
       qed 𝓛 (‵ (bytes (x ∷ xs) o) ∷ ‵ (bytes ys (place 1 (o + 1) (length xs))) ∷ []) ∵ fsplit ! $ move ! (1 ∷ 2 ∷ []) $
-      use2 𝓛 (‵ (bytes (xs ++ ys) (o + 1))) (behind_all xs ys (o + 1)) $ move ! (1 ∷ 0 ∷ []) $ fjoin ! $ done !
+      use2 𝓛 (‵ (bytes (xs ++ ys) (o + 1))) (after_all xs ys (o + 1)) $ move ! (1 ∷ 0 ∷ []) $ fjoin ! $ done !
 
   pub all_room : (xs : List ℕ) (n o : ℕ) → ent 𝓤 (⋆ 𝓛 (‵ (bytes xs o) ∷ ‵ (spare n (place 1 o (length xs))) ∷ [])) (⋆ 𝓛 (‵ (spare (length xs + n) o) ∷ []))
   all_room [] n o = qed 𝓛 (‵ (bytes [] o) ∷ ‵ (spare n o) ∷ []) ∵ drop ! $ rewrite ! 0 (λ (k : ℕ). ‵ (spare k o)) (sym (zero-add n)) refl $ done !

@@ -22,7 +22,7 @@ use Rattle.lg_carry.specs.Registers.{HasWord, HoldsRegisters, HoldsCarry, HoldsR
 use Rattle.lg_carry.specs.Stands.{lowest, HasParts, StatesAgree}
 use Rattle.lg_carry.proofs.AgreeInFrameLemmas.{settled, running}
 use Rattle.lg_carry.proofs.KeptLemmas.{stack_arguments-kept, frames-kept, running-kept}
-use Rattle.lg_carry.proofs.OuterLemmas.{bottom-words, keeps-on, behind-entry, outer-inside, outer-called, called-outer, outer-room}
+use Rattle.lg_carry.proofs.OuterLemmas.{bottom-words, keeps-on, after-entry, outer-inside, outer-called, called-outer, outer-room}
 use Rattle.lg_carry.proofs.StackLemmas.{stacked, few-arguments, stacked-running, words-above, within-where, locals-above, open-where, settled-size, stacked-high}
 use Rattle.lg_carry.proofs.WordLemmas.{word-kept}
 use Rattle.lg_carry.specs.Below.{LooksSame, StatesAreKept, StandsAreKept}
@@ -114,7 +114,7 @@ module _ (target : Target) (c : Code) (live : Frame → ℕ → Bool) (s : State
       (λ a le lt. kept a (inr (omega (arith, le, at, stack.0, stack.1)))) (ap (λ w. w (frame_register target)) look.registers)
       (ap (λ w. w (stack_register target)) look.registers) before))
       (outer-inside (is_inside c s.at) target c s.at s.frame s.callers r inside
-      (let o = behind-entry (is_inside c s.at) target c s.at s.frame s.callers q inside st.outer in record {
+      (let o = after-entry (is_inside c s.at) target c s.at s.frame s.callers q inside st.outer in record {
         entry = o.entry;
         keeps = keeps-on target c q.bytes r.bytes (outer-room c.nodes c.shape s.frame s.callers (outer_stack target c) st.fits.linked st.entry)
             (λ a lo hi. let w = words-above (lowest s.frame) (s.frame ∷ s.callers) a stack (bottom-words s.frame s.callers (outer_stack target c) st.entry a lo hi) in

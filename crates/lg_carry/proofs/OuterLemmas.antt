@@ -10,7 +10,7 @@ use Rattle.lg_meaning.specs.States.{Frame}
 use Rattle.lg_meaning.specs.Steps.{Ending, Exited, Left}
 use Rattle.lg_carry.specs.Entries.{entry_at}
 use Rattle.lg_carry.specs.FinalNodes.{Code, function_at, is_entry}
-use Rattle.lg_carry.specs.Outer.{HoldsOuter, KeepsOuter, bottom_at, IsBeforeEntry, IsBehindEntry, OuterIs, HasEnded, outer_stack}
+use Rattle.lg_carry.specs.Outer.{HoldsOuter, KeepsOuter, bottom_at, IsBeforeEntry, IsAfterEntry, OuterIs, HasEnded, outer_stack}
 use Rattle.lg_carry.specs.Places.{InWords}
 use Rattle.lg_carry.specs.Processors.{Seen}
 use Rattle.lg_carry.specs.Registers.{HoldsResult}
@@ -47,18 +47,18 @@ bottom-same c at to f [] same e = ap (is_entry c) same ∙ e
 bottom-same c at to f (g ∷ gs) same e = e
 
 -- after a `prolog` it is in the words of the frame
-pub behind-entry : (b : Bool) (target : Target) (c : Code) (at : ℕ) (f : Frame) (gs : List Frame) (q : Seen) → b ≡ true → OuterIs b target c at f gs q → IsBehindEntry target c at f gs q.bytes
-behind-entry b target c at f gs q e k = subst (λ x. OuterIs x target c at f gs q) e k
+pub after-entry : (b : Bool) (target : Target) (c : Code) (at : ℕ) (f : Frame) (gs : List Frame) (q : Seen) → b ≡ true → OuterIs b target c at f gs q → IsAfterEntry target c at f gs q.bytes
+after-entry b target c at f gs q e k = subst (λ x. OuterIs x target c at f gs q) e k
 
-pub outer-inside : (b : Bool) (target : Target) (c : Code) (at : ℕ) (f : Frame) (gs : List Frame) (q : Seen) → b ≡ true → IsBehindEntry target c at f gs q.bytes → OuterIs b target c at f gs q
+pub outer-inside : (b : Bool) (target : Target) (c : Code) (at : ℕ) (f : Frame) (gs : List Frame) (q : Seen) → b ≡ true → IsAfterEntry target c at f gs q.bytes → OuterIs b target c at f gs q
 outer-inside b target c at f gs q e k = subst (λ x. OuterIs x target c at f gs q) (sym e) k
 
 -- and so it is where there are callers
-pub outer-called : (b : Bool) (target : Target) (c : Code) (at : ℕ) (f g : Frame) (gs : List Frame) (q : Seen) → IsBehindEntry target c at f (g ∷ gs) q.bytes → OuterIs b target c at f (g ∷ gs) q
+pub outer-called : (b : Bool) (target : Target) (c : Code) (at : ℕ) (f g : Frame) (gs : List Frame) (q : Seen) → IsAfterEntry target c at f (g ∷ gs) q.bytes → OuterIs b target c at f (g ∷ gs) q
 outer-called true target c at f g gs q k = k
 outer-called false target c at f g gs q k = k
 
-pub called-outer : (b : Bool) (target : Target) (c : Code) (at : ℕ) (f g : Frame) (gs : List Frame) (q : Seen) → OuterIs b target c at f (g ∷ gs) q → IsBehindEntry target c at f (g ∷ gs) q.bytes
+pub called-outer : (b : Bool) (target : Target) (c : Code) (at : ℕ) (f g : Frame) (gs : List Frame) (q : Seen) → OuterIs b target c at f (g ∷ gs) q → IsAfterEntry target c at f (g ∷ gs) q.bytes
 called-outer true target c at f g gs q k = k
 called-outer false target c at f g gs q k = k
 

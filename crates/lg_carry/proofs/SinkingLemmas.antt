@@ -276,10 +276,10 @@ module _ {Q : Type 0} (P : Processor Q) where
         same-more P none h (P.machine.step (iter P.machine.step j o.from)) (P.machine.step (at' j).0) v (λ a e. refl) more
         (subst (λ z. AreSame P (is_below P.target z) (P.machine.step (at' j).0) v) level (disturbs-same P (P.machine.step (at' j).0) v change))
 
-    behind-seen : (j : ℕ) → (o : Origin j) → IsSeen (P.seen (iter P.machine.step (suc j) o.from))
+    after-seen : (j : ℕ) → (o : Origin j) → IsSeen (P.seen (iter P.machine.step (suc j) o.from))
         → IsSeen (P.seen (d (at' j).1 (P.machine.step (at' j).0)))
     unfolding iter
-    behind-seen j o seen = (disturbs (at' j).1 (P.machine.step (at' j).0)).seen
+    after-seen j o seen = (disturbs (at' j).1 (P.machine.step (at' j).0)).seen
         (same-seen (P.machine.step (iter P.machine.step j o.from)) (P.machine.step (at' j).0) (stepped j o) seen)
 
     onward : (j : ℕ) → (o : Origin j) → suc j < (leads o.from o.stands).way.steps → Origin (suc j)
@@ -294,7 +294,7 @@ module _ {Q : Type 0} (P : Processor Q) where
         let big : AreSame P h (iter P.machine.step (suc j) p) v = behind-step j o in
         let seen-here = same-seen (at' j).0 (iter P.machine.step j p) (same-back (iter P.machine.step j p) (at' j).0 o.same) o.seen in
         let step-seen = (sinks.leaves j (omega (arith, lt)) none (λ a e. cc) (iter P.machine.step j p) seen-here (same-self P none (iter P.machine.step j p))).1 in
-        let v-seen = behind-seen j o step-seen in
+        let v-seen = after-seen j o step-seen in
         let p' = with-bytes pt h p (P.seen v).bytes in
         let close = patched pt h p (P.seen v).bytes in
         let p-seen = patched-seen pt h p (P.seen v).bytes o.stands.state.seen v-seen.bytes v-seen.heap v-seen.stack in
@@ -432,7 +432,7 @@ module _ {Q : Type 0} (P : Processor Q) where
     unfolding iter
     arrives j o last =
         subst (Meets (disturbed P d) c live after (q, n) next out) (sym (reaches j o))
-        (meets o.from o.low next (iter P.machine.step (suc j) o.from) (d (at' j).1 (P.machine.step (at' j).0)) (behind-step j o) (behind-seen j o)
+        (meets o.from o.low next (iter P.machine.step (suc j) o.from) (d (at' j).1 (P.machine.step (at' j).0)) (behind-step j o) (after-seen j o)
         (subst (λ x. Meets P c live after o.from next out (iter P.machine.step x o.from)) last (leads o.from o.stands).way.there) (suc (at' j).1))
 
     -- the last step, after a front of quiet ones

@@ -38,13 +38,13 @@ pub record IsBeforeEntry (target : Target) (c : Code) (at : ℕ) (registers : �
   pub holds : HoldsOuter target c registers
 
 -- and after it
-pub record IsBehindEntry (target : Target) (c : Code) (at : ℕ) (f : Frame) (gs : List Frame) (bytes : ℕ → Option ℕ) : Type 0 where
+pub record IsAfterEntry (target : Target) (c : Code) (at : ℕ) (f : Frame) (gs : List Frame) (bytes : ℕ → Option ℕ) : Type 0 where
   pub entry : is_entry c (function_at c (bottom_at at f gs)) ≡ true
   pub keeps : KeepsOuter target c bytes
 
 abbrev pub OuterIs : Bool → Target → Code → ℕ → Frame → List Frame → Seen → Type 0
-OuterIs true target c at f gs q = IsBehindEntry target c at f gs q.bytes
-OuterIs false target c at f (g ∷ gs) q = IsBehindEntry target c at f (g ∷ gs) q.bytes
+OuterIs true target c at f gs q = IsAfterEntry target c at f gs q.bytes
+OuterIs false target c at f (g ∷ gs) q = IsAfterEntry target c at f (g ∷ gs) q.bytes
 OuterIs false target c at f [] q = IsBeforeEntry target c at q.registers
 
 -- ---- after a return from the entry's frame

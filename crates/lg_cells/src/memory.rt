@@ -136,7 +136,7 @@ impl CellMemory {
     }
 
     // Returns the cell this many addresses after one; after the last address there is none.
-    fn cell_behind(&self, address: u64, count: u64) -> Cell
+    fn cell_after(&self, address: u64, count: u64) -> Cell
         requires { count < 8 }
         ensures value { result ≡ cell_at self.now (address + count) }
         ensures end { IsTrue (is_room result) → address + count < 2 ^ 64 }
@@ -178,7 +178,7 @@ impl CellMemory {
         let mut left = width as u64;
         while left > 0 {
             left -= 1;
-            match self.cell_behind(address, left).byte() {
+            match self.cell_after(address, left).byte() {
                 Some(byte) => value = value * 256 + byte as u64,
                 None => return None,
             }
@@ -208,7 +208,7 @@ impl CellMemory {
         ensures end { IsTrue result → address + width ≤ 2 ^ 64 }
     {
         for i in 0..width as u64 {
-            if !self.cell_behind(address, i).is_room() {
+            if !self.cell_after(address, i).is_room() {
                 return false;
             }
         }

@@ -27,7 +27,7 @@ use Rattle.lg_a64.specs.declared.instruction.BranchOp.TheVariants.{B, Bl}
 use Rattle.lg_a64.specs.declared.instruction.BranchRegOp.{BranchRegOp}
 use Rattle.lg_a64.specs.declared.instruction.BranchRegOp.TheVariants.{Br, Blr, Ret}
 use Rattle.lg_cpu.specs.Steps.{faults}
-use Rattle.lg_cpu.specs.HostSteps.{answer_at, put, behind_call}
+use Rattle.lg_cpu.specs.HostSteps.{answer_at, put, after_call}
 use Rattle.lg_cpu.specs.Loads.{extended_by}
 use Rattle.lg_cpu.specs.Fetches.{in_code}
 use Rattle.lg_cpu.specs.States.{CpuState, arrives}
@@ -36,7 +36,7 @@ use Rattle.lg_cpu.specs.A64Step.{read, write, computes, sets, loads, load_at, st
 use Rattle.lg_cpu.specs.Laws.{IsSound, AreBytes}
 use Rattle.lg_cpu.proofs.OperatorLemmas.{low_word, choice_word, sign_1_word, sign_2_word, sign_4_word}
 use Rattle.lg_cpu.proofs.A64OperatorLemmas.{a64-reg-word, a64-imm-word, a64-wide-word, a64-mul-add-word, a64-bitfield-word, a64-csinc-word, a64-reverse-word}
-use Rattle.lg_cpu.proofs.WordLemmas.{AreWords, loaded_lt, stored_sound, put_words, sound_arrives, sound_goes_on, sound_choice, drop_bytes, behind_words, sound_host_step}
+use Rattle.lg_cpu.proofs.WordLemmas.{AreWords, loaded_lt, stored_sound, put_words, sound_arrives, sound_goes_on, sound_choice, drop_bytes, after_words, sound_host_step}
 
 -- ---- registers
 read_word : (f : ℕ → ℕ) (r : ℕ) → AreWords f → read f r < 2 ^ 64
@@ -140,7 +140,7 @@ sound_fetch code q bytes s =
 sound_host : (name : HostName) (trash : ℕ) (q : CpuState) → trash < 2 ^ 64 → IsSound q → IsSound (enter_host name trash q).to
 sound_host name trash q t s =
     sound_choice (q.registers 31 % 16 == 0) (host_effect (answer_at target.Aarch64 name (q.registers 31) q) trash q) (faults q Host)
-    (sound_host_step target.Aarch64 name (q.registers 31) q (q.registers 30) (behind_call target.Aarch64 32 q.registers trash) (trash_flags trash) (s.words 30) (λ v small. behind_words target.Aarch64 32 q.registers trash v s.words t small) s) s
+    (sound_host_step target.Aarch64 name (q.registers 31) q (q.registers 30) (after_call target.Aarch64 32 q.registers trash) (trash_flags trash) (s.words 30) (λ v small. after_words target.Aarch64 32 q.registers trash v s.words t small) s) s
 
 sound_at : (o : Option HostName) (code : List ℕ) (trash : ℕ) (q : CpuState) → AreBytes code → trash < 2 ^ 64 → IsSound q → IsSound (effect_at o code trash q).to
 sound_at None code trash q bytes t s = sound_fetch code q bytes s

@@ -22,14 +22,14 @@ use Rattle.lg_rv.specs.declared.instruction.ImmOp.{ImmOp}
 use Rattle.lg_rv.specs.declared.instruction.ImmOp.TheVariants.{Jalr, Lb, Lh, Lw, Ld, Lbu, Lhu, Lwu, Addi, Slti, Sltiu, Xori, Ori, Andi, Addiw}
 use Rattle.lg_rv.specs.declared.instruction.RegOp.TheVariants.{Add, Slt, Sltu, Xor, Or, And, Addw}
 use Rattle.lg_cpu.specs.Steps.{faults}
-use Rattle.lg_cpu.specs.HostSteps.{answer_at, put, behind_call}
+use Rattle.lg_cpu.specs.HostSteps.{answer_at, put, after_call}
 use Rattle.lg_cpu.specs.RvOperators.{reg_value, is_taken}
 use Rattle.lg_cpu.specs.States.{CpuState}
 use Rattle.lg_cpu.specs.Loads.{extended_by}
 use Rattle.lg_cpu.specs.RvStep.{read, goes, sets, loads, load_at, store_at, store_width, jump_to, branch_to, imm_effect, act, decoded, fetch, host_effect, enter_host, effect_at, effect}
 use Rattle.lg_cpu.specs.Fetches.{in_code}
 use Rattle.lg_cpu.specs.Laws.{IsSound, AreBytes}
-use Rattle.lg_cpu.proofs.WordLemmas.{AreWords, loaded_lt, stored_sound, put_words, sound_arrives, sound_choice, drop_bytes, behind_words, sound_host_step}
+use Rattle.lg_cpu.proofs.WordLemmas.{AreWords, loaded_lt, stored_sound, put_words, sound_arrives, sound_choice, drop_bytes, after_words, sound_host_step}
 use Rattle.lg_cpu.proofs.OperatorLemmas.{low_word, sign_32_word, choice_word, reg_word, shift_word, sign_1_word, sign_2_word, sign_4_word}
 
 -- ---- registers
@@ -121,7 +121,7 @@ sound_fetch code q bytes s =
 sound_host : (name : HostName) (trash : ℕ) (q : CpuState) → trash < 2 ^ 64 → IsSound q → IsSound (enter_host name trash q).to
 sound_host name trash q t s =
     sound_choice (q.registers 2 % 16 == 0) (host_effect (answer_at target.Riscv64 name (q.registers 2) q) trash q) (faults q Host)
-    (sound_host_step target.Riscv64 name (q.registers 2) q (q.registers 1) (behind_call target.Riscv64 32 q.registers trash) NoFlags (s.words 1) (λ v small. behind_words target.Riscv64 32 q.registers trash v s.words t small) s) s
+    (sound_host_step target.Riscv64 name (q.registers 2) q (q.registers 1) (after_call target.Riscv64 32 q.registers trash) NoFlags (s.words 1) (λ v small. after_words target.Riscv64 32 q.registers trash v s.words t small) s) s
 
 sound_at : (o : Option HostName) (code : List ℕ) (trash : ℕ) (q : CpuState) → AreBytes code → trash < 2 ^ 64 → IsSound q → IsSound (effect_at o code trash q).to
 sound_at None code trash q bytes t s = sound_fetch code q bytes s

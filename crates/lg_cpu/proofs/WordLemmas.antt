@@ -14,7 +14,7 @@ use Rattle.lg_host.specs.HostLaws.{OnGives, IsAllowed}
 use Rattle.lg_host.specs.HostLaws as host
 use Rattle.lg_host.proofs.HostLawLemmas.{host_of-allowed}
 use Rattle.lg_cpu.specs.Steps.{Effect}
-use Rattle.lg_cpu.specs.HostSteps.{stack_words, read_before, arguments_of, answer_at, returned, put, clobbered, behind_call}
+use Rattle.lg_cpu.specs.HostSteps.{stack_words, read_before, arguments_of, answer_at, returned, put, clobbered, after_call}
 use Rattle.lg_cpu.specs.States.{CpuState, arrives}
 use Rattle.lg_cpu.specs.Laws.{IsSound, AreBytes}
 use Rattle.lg_cpu.proofs.OperatorLemmas.{choice_word}
@@ -93,8 +93,8 @@ stack_word bytes a zero h r = omega arith
 stack_word bytes a (suc n) h r =
     before_words (loaded bytes a 8) (stack_words bytes (add_words a 8) n) (λ v e. let lt : v < 256 ^ 8 = loaded_lt bytes a 8 v h e in omega (arith, lt)) (stack_word bytes (add_words a 8) n h) r
 
-pub behind_words : (t : Target) (n : ℕ) (f : ℕ → ℕ) (trash value : ℕ) → AreWords f → trash < 2 ^ 64 → value < 2 ^ 64 → AreWords (behind_call t n f trash value)
-behind_words t n f trash value h small v = put_words (clobbered t n f trash) (result_register t) value (λ r. choice_word (nat_lt r n && not (is_kept t r)) trash (f r) small (h r)) v
+pub after_words : (t : Target) (n : ℕ) (f : ℕ → ℕ) (trash value : ℕ) → AreWords f → trash < 2 ^ 64 → value < 2 ^ 64 → AreWords (after_call t n f trash value)
+after_words t n f trash value h small v = put_words (clobbered t n f trash) (result_register t) value (λ r. choice_word (nat_lt r n && not (is_kept t r)) trash (f r) small (h r)) v
 
 sound_returned : (h : Answer) (m : Mem) (back : ℕ) (registers : ℕ → ℕ → ℕ) (flags : Flags) (q : CpuState) → OnGives h (IsAllowed m) → back < 2 ^ 64 → ((v : ℕ) → v < 2 ^ 64 → AreWords (registers v)) → IsSound q → IsSound (returned h back registers flags q).to
 sound_returned (Gives value changes mark bytes) m back registers flags q ok b r s = record {

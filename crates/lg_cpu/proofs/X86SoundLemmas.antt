@@ -34,7 +34,7 @@ use Rattle.lg_x86.specs.declared.instruction.StackOp.TheVariants.{Push, Pop}
 use Rattle.lg_x86.specs.declared.instruction.JumpNearOp.TheVariants.{Jmp32, Call32}
 use Rattle.lg_x86.specs.declared.instruction.JumpRegOp.TheVariants.{Jmpr, Callr}
 use Rattle.lg_x86.specs.declared.instruction.BareOp.TheVariants.{Cqo, Ret, Nop}
-use Rattle.lg_cpu.specs.HostSteps.{put, behind_call}
+use Rattle.lg_cpu.specs.HostSteps.{put, after_call}
 use Rattle.lg_cpu.specs.Fetches.{in_code}
 use Rattle.lg_cpu.specs.States.{CpuState}
 use Rattle.lg_cpu.specs.Steps.{faults}
@@ -43,7 +43,7 @@ use Rattle.lg_cpu.specs.X86Step.{Scene, scene_of, sets, with_flags, with_registe
 use Rattle.lg_cpu.specs.X86Step.{fault_of, goes_with, goes_where, returns, does, decoded, fetch, popped, takes_al, enter_with, enter_host, effect_at, effect}
 use Rattle.lg_cpu.specs.Laws.{IsSound, AreBytes}
 use Rattle.lg_cpu.proofs.OperatorLemmas.{low_word, choice_word, quotient_word, high_word, high_product_word, sign_1_word, sign_2_word, sign_4_word}
-use Rattle.lg_cpu.proofs.WordLemmas.{Sound, AreWords, loaded_lt, stored_sound, put_words, sound_arrives, sound_goes_on, sound_choice, drop_bytes, behind_words, sound_host_step}
+use Rattle.lg_cpu.proofs.WordLemmas.{Sound, AreWords, loaded_lt, stored_sound, put_words, sound_arrives, sound_goes_on, sound_choice, drop_bytes, after_words, sound_host_step}
 
 -- ---- words
 and-word : (a b : ℕ) → a < 2 ^ 64 → bit_and a b < 2 ^ 64
@@ -303,7 +303,7 @@ sound_enter : (name : HostName) (trash : ℕ) (q : CpuState) (o : Option ℕ) �
 sound_enter name trash q None t s h = s
 sound_enter name trash q (Some link) t s h =
     sound_host_step target.X86_64 name (add_words (q.registers 4) 8) q link (popped q.registers trash) no_flags (h link refl)
-    (λ v small. put_words (behind_call target.X86_64 16 q.registers trash v) 4 (add_words (q.registers 4) 8) (behind_words target.X86_64 16 q.registers trash v s.words t small) (low_word (q.registers 4 + 8))) s
+    (λ v small. put_words (after_call target.X86_64 16 q.registers trash v) 4 (add_words (q.registers 4) 8) (after_words target.X86_64 16 q.registers trash v s.words t small) (low_word (q.registers 4 + 8))) s
 
 sound_host : (name : HostName) (trash : ℕ) (q : CpuState) → trash < 2 ^ 64 → IsSound q → IsSound (enter_host name trash q).to
 sound_host name trash q t s =

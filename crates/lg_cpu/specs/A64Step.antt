@@ -30,7 +30,7 @@ use Rattle.lg_a64.specs.Reading.{front_of}
 use Rattle.lg_cpu.specs.Steps.{Effect, faults}
 use Rattle.lg_cpu.specs.Loads.{extended_by}
 use Rattle.lg_cpu.specs.States.{CpuState, arrives, goes_on}
-use Rattle.lg_cpu.specs.HostSteps.{put, behind_call, answer_at, returned}
+use Rattle.lg_cpu.specs.HostSteps.{put, after_call, answer_at, returned}
 use Rattle.lg_cpu.specs.Fetches.{in_code}
 use Rattle.lg_cpu.specs.A64Operators.{reg_value, reg_flags, imm_number, imm_value, imm_flags, wide_value, mul_add_value, bitfield_value, csinc_value, reverse_value, condition_holds}
 
@@ -168,7 +168,7 @@ trash_flags trash = Nzcv (trash / 8 % 2 == 1) (trash / 4 % 2 == 1) (trash / 2 % 
 
 -- the outcome of a host function; control returns to the link, register 30
 abbrev pub host_effect : Answer → ℕ → CpuState → Effect CpuState
-host_effect answer trash q = returned answer (q.registers 30) (behind_call target.Aarch64 32 q.registers trash) (trash_flags trash) q
+host_effect answer trash q = returned answer (q.registers 30) (after_call target.Aarch64 32 q.registers trash) (trash_flags trash) q
 
 -- at a host entry the stack pointer, register 31, is a multiple of 16
 abbrev pub enter_host : HostName → ℕ → CpuState → Effect CpuState

@@ -40,8 +40,8 @@ clobbered target n registers trash r = if nat_lt r n && not (is_kept target r) t
 
 -- after a call the result register has the answer, and every other of the n registers that a call does not keep the
 -- trash word
-abbrev pub behind_call : Target → ℕ → (ℕ → ℕ) → ℕ → ℕ → ℕ → ℕ
-behind_call target n registers trash answer = put (clobbered target n registers trash) (result_register target) answer
+abbrev pub after_call : Target → ℕ → (ℕ → ℕ) → ℕ → ℕ → ℕ → ℕ
+after_call target n registers trash answer = put (clobbered target n registers trash) (result_register target) answer
 
 -- those of a state, with stack words from an address on
 abbrev pub arguments_of : Target → ℕ → CpuState → List ℕ

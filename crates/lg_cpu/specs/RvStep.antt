@@ -25,7 +25,7 @@ use Rattle.lg_cpu.specs.Fetches.{in_code}
 use Rattle.lg_cpu.specs.Loads.{extended_by}
 use Rattle.lg_cpu.specs.States.{CpuState, arrives}
 use Rattle.lg_cpu.specs.Steps.{Effect, faults}
-use Rattle.lg_cpu.specs.HostSteps.{put, behind_call, answer_at, returned}
+use Rattle.lg_cpu.specs.HostSteps.{put, after_call, answer_at, returned}
 use Rattle.lg_cpu.specs.RvOperators.{reg_value, shift_value, is_taken}
 
 -- register 0 reads as 0
@@ -117,7 +117,7 @@ fetch code q =
 
 -- the outcome of a host function; control returns to the link, register 1
 abbrev pub host_effect : Answer → ℕ → CpuState → Effect CpuState
-host_effect answer trash q = returned answer (q.registers 1) (behind_call target.Riscv64 32 q.registers trash) NoFlags q
+host_effect answer trash q = returned answer (q.registers 1) (after_call target.Riscv64 32 q.registers trash) NoFlags q
 
 -- at a host entry the stack pointer, register 2, is a multiple of 16
 abbrev pub enter_host : HostName → ℕ → CpuState → Effect CpuState

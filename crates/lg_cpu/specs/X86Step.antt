@@ -33,7 +33,7 @@ use Rattle.lg_x86.specs.declared.instruction.BareOp.TheVariants.{Cqo, Ret, Nop}
 use Rattle.lg_x86.specs.Reading.{front_of}
 use Rattle.lg_cpu.specs.Steps.{Effect, faults}
 use Rattle.lg_cpu.specs.States.{CpuState, arrives, goes_on}
-use Rattle.lg_cpu.specs.HostSteps.{put, behind_call, answer_at, returned}
+use Rattle.lg_cpu.specs.HostSteps.{put, after_call, answer_at, returned}
 use Rattle.lg_cpu.specs.Fetches.{in_code}
 use Rattle.lg_cpu.specs.X86Operators.{no_flags, bit, carry_for, alu_value, alu_flags, is_kept_by, alu_of, product_flags, sign_word, needs_high, needs_high_signed, reg_rm_value, reg_rm_flags, negation_flags, shift_value, shift_flags, condition_holds}
 
@@ -226,7 +226,7 @@ fetch code q = if in_code code q.pc then decoded (front_of (drop (q.pc - code_ba
 -- ---- host functions
 -- after a host function that answered this, which has popped the return address
 abbrev pub popped : (ℕ → ℕ) → ℕ → ℕ → ℕ → ℕ
-popped registers trash answer = put (behind_call target.X86_64 16 registers trash answer) 4 (add_words (registers 4) 8)
+popped registers trash answer = put (after_call target.X86_64 16 registers trash answer) 4 (add_words (registers 4) 8)
 
 -- the outcome of a host function; control returns to the word that was at rsp, and rsp rises
 abbrev pub host_effect : Answer → ℕ → ℕ → CpuState → Effect CpuState

@@ -25,12 +25,12 @@ use Rattle.lg_node.specs.declared.place.Place.TheVariants as place
 use Rattle.lg_node.specs.declared.preparation.Preparation.{Preparation}
 use Rattle.lg_node.specs.declared.walk.Walk.{Walk}
 use Rattle.lg_node.specs.Checks.{FailsAll, refuses, kinds, refusal_of, refusal_at, end_refusal_of, may_stand_outside, is_begun, is_missing, is_astray, any_by_form, is_bad_call, is_too_many, is_too_big, is_arg, args_before, locals_before, IsAccepted}
-use Rattle.lg_node.specs.Functions.{is_prolog, is_epilog, is_prolog_at, is_prolog_node, home_of, open_behind, open_before, home, local_of, local_size, ended, functions_before, functions}
-use Rattle.lg_node.specs.Labels.{place_of, is_labelled, is_code, is_entry, is_inside, is_behind_prolog, takes_address}
+use Rattle.lg_node.specs.Functions.{is_prolog, is_epilog, is_prolog_at, is_prolog_node, home_of, open_after, open_before, home, local_of, local_size, ended, functions_before, functions}
+use Rattle.lg_node.specs.Labels.{place_of, is_labelled, is_code, is_entry, is_inside, is_after_prolog, takes_address}
 use Rattle.lg_node.specs.Nodes.{LabelledNodes}
-use Rattle.lg_node.specs.Preparations.{prepared_behind, prepared_before, varies_behind, varies_before}
+use Rattle.lg_node.specs.Preparations.{prepared_after, prepared_before, varies_after, varies_before}
 use Rattle.lg_node.specs.ShapeLaws.{IsWellShaped}
-use Rattle.lg_node.specs.Walks.{walk_at, walk_behind}
+use Rattle.lg_node.specs.Walks.{walk_at, walk_after}
 use Rattle.lg_node.proofs.AcceptedLaws.{is_closed}
 use Rattle.lg_node.proofs.FunctionLaws.{node_within}
 use Rattle.lg_node.proofs.FunctionLemmas.{functions_start, functions_on}
@@ -46,8 +46,8 @@ record Acts (o : Op) (xs : List Operand) (p : Op) (ys : List Operand) : Type 0 w
   epilog : is_epilog p ≡ is_epilog o
   arg : is_arg p ≡ is_arg o
   size : local_of p ys ≡ local_of o xs
-  call : (c : Option Preparation) → prepared_behind c p ≡ prepared_behind c o
-  varies : (v : Bool) (c : Option Preparation) → varies_behind v c p ≡ varies_behind v c o
+  call : (c : Option Preparation) → prepared_after c p ≡ prepared_after c o
+  varies : (v : Bool) (c : Option Preparation) → varies_after v c p ≡ varies_after v c o
   outside : (b : Bool) → may_stand_outside p b ≡ may_stand_outside o b
   bad : (c : Option Preparation) (v k : Bool) → is_bad_call c v k p ≡ is_bad_call c v k o
   many : (a : ℕ) (c : Option Preparation) → is_too_many a c p ≡ is_too_many a c o
@@ -58,11 +58,11 @@ same-acts o xs = record { prolog = refl; epilog = refl; arg = refl; size = refl;
 binary-acts : (b : _) (last : _) (xs ys : List Operand) → Acts (op.Binary b last) xs (op.Plain plain.Movi) ys
 binary-acts b last xs ys = record { prolog = refl; epilog = refl; arg = refl; size = refl; call = calls; varies = vary; outside = λ b. refl; bad = bads; many = manies }
   where
-    calls : (c : Option Preparation) → prepared_behind c (op.Plain plain.Movi) ≡ prepared_behind c (op.Binary b last)
+    calls : (c : Option Preparation) → prepared_after c (op.Plain plain.Movi) ≡ prepared_after c (op.Binary b last)
     calls None = refl
     calls (Some c) = refl
 
-    vary : (v : Bool) (c : Option Preparation) → varies_behind v c (op.Plain plain.Movi) ≡ varies_behind v c (op.Binary b last)
+    vary : (v : Bool) (c : Option Preparation) → varies_after v c (op.Plain plain.Movi) ≡ varies_after v c (op.Binary b last)
     vary v None = refl
     vary v (Some c) = refl
 
@@ -79,11 +79,11 @@ binary-acts b last xs ys = record { prolog = refl; epilog = refl; arg = refl; si
 unary-acts : (b : _) (xs ys : List Operand) → Acts (op.Unary b) xs (op.Plain plain.Movi) ys
 unary-acts b xs ys = record { prolog = refl; epilog = refl; arg = refl; size = refl; call = calls; varies = vary; outside = λ b. refl; bad = bads; many = manies }
   where
-    calls : (c : Option Preparation) → prepared_behind c (op.Plain plain.Movi) ≡ prepared_behind c (op.Unary b)
+    calls : (c : Option Preparation) → prepared_after c (op.Plain plain.Movi) ≡ prepared_after c (op.Unary b)
     calls None = refl
     calls (Some c) = refl
 
-    vary : (v : Bool) (c : Option Preparation) → varies_behind v c (op.Plain plain.Movi) ≡ varies_behind v c (op.Unary b)
+    vary : (v : Bool) (c : Option Preparation) → varies_after v c (op.Plain plain.Movi) ≡ varies_after v c (op.Unary b)
     vary v None = refl
     vary v (Some c) = refl
 
@@ -100,11 +100,11 @@ unary-acts b xs ys = record { prolog = refl; epilog = refl; arg = refl; size = r
 immediate-acts : (b : _) (xs ys : List Operand) → Acts (op.Binary b last_operand.Register) xs (op.Binary b last_operand.Immediate) ys
 immediate-acts b xs ys = record { prolog = refl; epilog = refl; arg = refl; size = refl; call = calls; varies = vary; outside = λ b. refl; bad = bads; many = manies }
   where
-    calls : (c : Option Preparation) → prepared_behind c (op.Binary b last_operand.Immediate) ≡ prepared_behind c (op.Binary b last_operand.Register)
+    calls : (c : Option Preparation) → prepared_after c (op.Binary b last_operand.Immediate) ≡ prepared_after c (op.Binary b last_operand.Register)
     calls None = refl
     calls (Some c) = refl
 
-    vary : (v : Bool) (c : Option Preparation) → varies_behind v c (op.Binary b last_operand.Immediate) ≡ varies_behind v c (op.Binary b last_operand.Register)
+    vary : (v : Bool) (c : Option Preparation) → varies_after v c (op.Binary b last_operand.Immediate) ≡ varies_after v c (op.Binary b last_operand.Register)
     vary v None = refl
     vary v (Some c) = refl
 
@@ -121,11 +121,11 @@ immediate-acts b xs ys = record { prolog = refl; epilog = refl; arg = refl; size
 branch-acts : (b : _) (xs ys : List Operand) → Acts (op.Branch b last_operand.Register) xs (op.Branch b last_operand.Immediate) ys
 branch-acts b xs ys = record { prolog = refl; epilog = refl; arg = refl; size = refl; call = calls; varies = vary; outside = λ b. refl; bad = bads; many = manies }
   where
-    calls : (c : Option Preparation) → prepared_behind c (op.Branch b last_operand.Immediate) ≡ prepared_behind c (op.Branch b last_operand.Register)
+    calls : (c : Option Preparation) → prepared_after c (op.Branch b last_operand.Immediate) ≡ prepared_after c (op.Branch b last_operand.Register)
     calls None = refl
     calls (Some c) = refl
 
-    vary : (v : Bool) (c : Option Preparation) → varies_behind v c (op.Branch b last_operand.Immediate) ≡ varies_behind v c (op.Branch b last_operand.Register)
+    vary : (v : Bool) (c : Option Preparation) → varies_after v c (op.Branch b last_operand.Immediate) ≡ varies_after v c (op.Branch b last_operand.Register)
     vary v None = refl
     vary v (Some c) = refl
 
@@ -166,21 +166,21 @@ home-same-of : (f : Option ℕ) (i : ℕ) (o p : Op) → is_prolog p ≡ is_prol
 home-same-of None i o p e = ap (λ b. if b then Some i else None) e
 home-same-of (Some q) i o p e = refl
 
-open-same-of : (f g : Option ℕ) (o p : Op) → is_epilog p ≡ is_epilog o → g ≡ f → open_behind g p ≡ open_behind f o
-open-same-of f g o p e h = ap (λ b. if b then None else g) e ∙ ap (λ x. open_behind x o) h
+open-same-of : (f g : Option ℕ) (o p : Op) → is_epilog p ≡ is_epilog o → g ≡ f → open_after g p ≡ open_after f o
+open-same-of f g o p e h = ap (λ b. if b then None else g) e ∙ ap (λ x. open_after x o) h
 
-behind-same : (w : Walk) (i : ℕ) (n k : Node) → Acts n.op n.operands k.op k.operands → walk_behind w i k ≡ walk_behind w i n
-behind-same w i n k a =
+after-same : (w : Walk) (i : ℕ) (n k : Node) → Acts n.op n.operands k.op k.operands → walk_after w i k ≡ walk_after w i n
+after-same w i n k a =
     let opened = open-same-of (home_of w.function i n.op) (home_of w.function i k.op) n.op k.op a.epilog (home-same-of w.function i n.op k.op a.prolog) in
-    ap (λ f. at f (is_prolog k.op) (is_arg k.op) (local_size k) (prepared_behind w.call k.op) (varies_behind w.varies w.call k.op)) opened
-    ∙ ap (λ b. at there b (is_arg k.op) (local_size k) (prepared_behind w.call k.op) (varies_behind w.varies w.call k.op)) a.prolog
-    ∙ ap (λ b. at there (is_prolog n.op) b (local_size k) (prepared_behind w.call k.op) (varies_behind w.varies w.call k.op)) a.arg
-    ∙ ap (λ x. at there (is_prolog n.op) (is_arg n.op) x (prepared_behind w.call k.op) (varies_behind w.varies w.call k.op)) a.size
-    ∙ ap (λ c. at there (is_prolog n.op) (is_arg n.op) (local_size n) c (varies_behind w.varies w.call k.op)) (a.call w.call)
-    ∙ ap (λ v. at (open_behind (home_of w.function i n.op) n.op) (is_prolog n.op) (is_arg n.op) (local_size n) (prepared_behind w.call n.op) v) (a.varies w.varies w.call)
+    ap (λ f. at f (is_prolog k.op) (is_arg k.op) (local_size k) (prepared_after w.call k.op) (varies_after w.varies w.call k.op)) opened
+    ∙ ap (λ b. at there b (is_arg k.op) (local_size k) (prepared_after w.call k.op) (varies_after w.varies w.call k.op)) a.prolog
+    ∙ ap (λ b. at there (is_prolog n.op) b (local_size k) (prepared_after w.call k.op) (varies_after w.varies w.call k.op)) a.arg
+    ∙ ap (λ x. at there (is_prolog n.op) (is_arg n.op) x (prepared_after w.call k.op) (varies_after w.varies w.call k.op)) a.size
+    ∙ ap (λ c. at there (is_prolog n.op) (is_arg n.op) (local_size n) c (varies_after w.varies w.call k.op)) (a.call w.call)
+    ∙ ap (λ v. at (open_after (home_of w.function i n.op) n.op) (is_prolog n.op) (is_arg n.op) (local_size n) (prepared_after w.call n.op) v) (a.varies w.varies w.call)
   where
     there : Option ℕ
-    there = open_behind (home_of w.function i n.op) n.op
+    there = open_after (home_of w.function i n.op) n.op
 
     at : Option ℕ → Bool → Bool → ℕ → Option Preparation → Bool → Walk
     at f p a x c v = record {
@@ -206,8 +206,8 @@ module _ (l m : LabelledNodes) (a : IsAccepted l) (to : IsFoldedTo l m) where
       by : (n : Node) × (slice_get l.nodes i ≡ Some n) → walk_at m.nodes i ≡ walk_at l.nodes i → walk_at m.nodes (suc i) ≡ walk_at l.nodes (suc i)
       by n h =
           ap (walk_at m.nodes) (sym (add-one i)) ∙ sym (walk_on m.nodes i (folded (known_before m i) n.0) (to.nodes i n.0 n.1))
-          ∙ ap (λ v. walk_behind v i (folded (known_before m i) n.0)) h
-          ∙ behind-same (walk_at l.nodes i) i n.0 (folded (known_before m i) n.0) (acts i n.0)
+          ∙ ap (λ v. walk_after v i (folded (known_before m i) n.0)) h
+          ∙ after-same (walk_at l.nodes i) i n.0 (folded (known_before m i) n.0) (acts i n.0)
           ∙ walk_on l.nodes i n.0 n.1 ∙ ap (walk_at l.nodes) (add-one i)
 
   home-same : (i : ℕ) → home m.nodes i ≡ home l.nodes i
@@ -250,7 +250,7 @@ module _ (l m : LabelledNodes) (a : IsAccepted l) (to : IsFoldedTo l m) where
   inside-same : (p : ℕ) (o : Option Place) → is_inside m.nodes p o ≡ is_inside l.nodes p o
   inside-same p None = refl
   inside-same p (Some (place.Image k)) = refl
-  inside-same p (Some (place.Node k)) = ap (λ h. is_behind_prolog h p k) (home-same k)
+  inside-same p (Some (place.Node k)) = ap (λ h. is_after_prolog h p k) (home-same k)
 
   astray-same : (h : Option ℕ) (p : Op) (f : Form) (x : Operand) → is_astray m h p f x ≡ is_astray l h p f x
   astray-same None p form.Target (operand.Label y) = ap (λ o. not (is_entry m.nodes o)) (place-same y) ∙ ap not (entry-same (place_of l.places y))

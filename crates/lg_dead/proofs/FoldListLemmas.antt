@@ -26,8 +26,8 @@ use Rattle.lg_node.proofs.FunctionLaws.{node_within}
 use Rattle.lg_opt.specs.Remaining.{moved_place}
 use Rattle.lg_dead.specs.declared.known.Known.{Known}
 use Rattle.lg_dead.specs.Folds.{IsFoldedTo}
-use Rattle.lg_dead.specs.Known.{folded, none_known, moved_number, or_else, known_behind, known_at, known_before}
-use Rattle.lg_dead.specs.Lists.{with_nodes, AreFolded, AreBehind}
+use Rattle.lg_dead.specs.Known.{folded, none_known, moved_number, or_else, known_after, known_at, known_before}
+use Rattle.lg_dead.specs.Lists.{with_nodes, AreFolded, AreAfter}
 use Rattle.lg_dead.specs.Tables.{known_of}
 
 get-left : (xs ys : List Node) (i : ℕ) → i < length xs → slice_get (xs ++ ys) i ≡ slice_get xs i
@@ -50,9 +50,9 @@ module _ (l : LabelledNodes) where
   pub first-folded : (ns : List Node) → ns ≡ [] → AreFolded l ns 0
   first-folded ns e = record { many = ap length e; each = λ i n lt h. absurd (omega arith) }
 
-  pub first-behind : (ns : List Node) (k : Known) → ((r : Reg) → known_of k r ≡ None) → AreBehind l ns 0 k
+  pub first-after : (ns : List Node) (k : Known) → ((r : Reg) → known_of k r ≡ None) → AreAfter l ns 0 k
   unfolding known_before
-  first-behind ns k none r = by (is_labelled l.places 0)
+  first-after ns k none r = by (is_labelled l.places 0)
     where
       by : (b : Bool) → (if b then None else known_of k r) ≡ None
       by true = refl
@@ -81,9 +81,9 @@ module _ (l : LabelledNodes) where
           (cases_lt j i);
     }
 
-    pub next-behind : (g : Known) → ((r : Reg) → known_of g r ≡ known_at (known_of f) (Some k) r) → AreBehind l ms (i + 1) g
+    pub next-after : (g : Known) → ((r : Reg) → known_of g r ≡ known_at (known_of f) (Some k) r) → AreAfter l ms (i + 1) g
     unfolding known_before
-    next-behind g e r =
+    next-after g e r =
         let step : known_of g r ≡ known_at (known_before (with_nodes l ms) i) (slice_get ms i) r = e r ∙ ap (λ h. known_at h (Some k) r) (same ∙ sym (before i (omega arith))) ∙ ap (λ o. known_at (known_before (with_nodes l ms) i) o r) (sym last-here) in
         rw add-one (by (is_labelled l.places (suc i)) step)
       where
@@ -122,14 +122,14 @@ all-registers f g n a b c d e h V1 = e
 all-registers f g n a b c d e h V2 = h
 all-registers f g n a b c d e h Fp = fp-none g ∙ by (leaps n.op)
   where
-    behind : None ≡ known_behind (known_of f) n Fp
+    behind : None ≡ known_after (known_of f) n Fp
     behind = sym (ap (λ o. or_else o (if is_written n Fp then None else known_of f Fp)) (no-move n.op n.operands) ∙ ap (λ o. if is_written n Fp then None else o) (fp-none f) ∙ if-none (is_written n Fp))
       where
         if-none : (b : Bool) → ◌≡◌ {A = Option ℕ} (if b then None else None) None
         if-none true = refl
         if-none false = refl
 
-    by : (b : Bool) → None ≡ (if b then none_known else known_behind (known_of f) n) Fp
+    by : (b : Bool) → None ≡ (if b then none_known else known_after (known_of f) n) Fp
     by true = refl
     by false = behind
 

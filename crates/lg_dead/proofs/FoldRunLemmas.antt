@@ -53,7 +53,7 @@ use Rattle.lg_opt.proofs.KeepLemmas.{keeps, other-word}
 use Rattle.lg_opt.proofs.MoveLemmas.{held}
 use Rattle.lg_opt.proofs.OriginLemmas.{all-numbered}
 use Rattle.lg_opt.proofs.StepLemmas.{steps-meet}
-use Rattle.lg_dead.specs.Known.{number_in, made, last_known, as_movi, as_immediate, folded_by, folded, none_known, moved_number, or_else, known_behind, known_at, known_before, can_be_folded, HasNoFolds}
+use Rattle.lg_dead.specs.Known.{number_in, made, last_known, as_movi, as_immediate, folded_by, folded, none_known, moved_number, or_else, known_after, known_at, known_before, can_be_folded, HasNoFolds}
 use Rattle.lg_dead.specs.Folds.{IsFoldedTo}
 use Rattle.lg_dead.proofs.FoldNodeLemmas.{BinaryMade, UnaryMade, BinaryLast, BranchLast, made-cases, last-cases, no-more}
 
@@ -227,7 +227,7 @@ module _ (t : Text) (n : Node) (s u : State) (bytes : List ℕ) (known : Reg →
       by false w e = keeps t n s u bytes r falls w g ∙ are r v e
 
   -- a node that makes a number
-  made-known : (w : ℕ) → made known n.op n.operands ≡ Some w → AreKnown u (known_behind known (as_movi n w))
+  made-known : (w : ℕ) → made known n.op n.operands ≡ Some w → AreKnown u (known_after known (as_movi n w))
   made-known w e r v h =
       let x = makes t s known are n w e in
       let d = writes-register (operand_at n 0) first in
@@ -245,30 +245,30 @@ module _ (t : Text) (n : Node) (s u : State) (bytes : List ℕ) (known : Reg →
           ∙ first-admitted (form.Read ∷ []) b.into (b.first ∷ []) (sym (ap (λ o. admit (forms_of o) n.operands) b.op_is ∙ ap (admit (form.Write ∷ form.Read ∷ [])) b.operands_are) ∙ formed.forms))
           (made-cases known n.op n.operands w e)
 
-      behind : (d : Operand) (q : Reg) → d ≡ operand.Reg q → known_behind known (record n { op = op.Plain plain.Movi; operands = d ∷ operand.Number w ∷ [] }) r ≡ or_else (if is_same q r then Some w else None) (if is_register r (operand.Reg q) then None else known r)
-      behind d q f = ap (λ x. known_behind known (record n { op = op.Plain plain.Movi; operands = x ∷ operand.Number w ∷ [] }) r) f ∙ unfolded (is_register r (operand.Reg q))
+      behind : (d : Operand) (q : Reg) → d ≡ operand.Reg q → known_after known (record n { op = op.Plain plain.Movi; operands = d ∷ operand.Number w ∷ [] }) r ≡ or_else (if is_same q r then Some w else None) (if is_register r (operand.Reg q) then None else known r)
+      behind d q f = ap (λ x. known_after known (record n { op = op.Plain plain.Movi; operands = x ∷ operand.Number w ∷ [] }) r) f ∙ unfolded (is_register r (operand.Reg q))
         where
           unfolded : (b : Bool) → or_else (if is_same q r then Some w else None) (if (b || false) then None else known r) ≡ or_else (if is_same q r then Some w else None) (if b then None else known r)
           unfolded true = refl
           unfolded false = refl
 
   -- a node that gets its last operand as a number
-  last-known : (w : ℕ) → last_known known n.op n.operands ≡ Some w → AreKnown u (known_behind known (as_immediate n w))
+  last-known : (w : ℕ) → last_known known n.op n.operands ≡ Some w → AreKnown u (known_after known (as_immediate n w))
   last-known w e r v h = kept-known r v (sym same ∙ h)
     where
-      binary : BinaryLast known n.op n.operands w → known_behind known (as_immediate n w) r ≡ (if is_written n r then None else known r)
+      binary : BinaryLast known n.op n.operands w → known_after known (as_immediate n w) r ≡ (if is_written n r then None else known r)
       binary b =
-          subst (λ o. known_behind known (as_immediate (record n { op = o }) w) r ≡ (if is_written (record n { op = o }) r then None else known r)) (sym b.op_is)
-          (subst (λ xs. known_behind known (as_immediate (record n { op = op.Binary b.name last_operand.Register; operands = xs }) w) r ≡ (if is_written (record n { op = op.Binary b.name last_operand.Register; operands = xs }) r then None else known r)) (sym b.operands_are) refl)
+          subst (λ o. known_after known (as_immediate (record n { op = o }) w) r ≡ (if is_written (record n { op = o }) r then None else known r)) (sym b.op_is)
+          (subst (λ xs. known_after known (as_immediate (record n { op = op.Binary b.name last_operand.Register; operands = xs }) w) r ≡ (if is_written (record n { op = op.Binary b.name last_operand.Register; operands = xs }) r then None else known r)) (sym b.operands_are) refl)
 
       branch-leaps : BranchLast known n.op n.operands w → ⊥
       branch-leaps b = let no : true ≡ false = sym (ap leaps b.op_is) ∙ falls in cc
 
-      same : known_behind known (as_immediate n w) r ≡ (if is_written n r then None else known r)
+      same : known_after known (as_immediate n w) r ≡ (if is_written n r then None else known r)
       same = ⊎_elim binary (λ b. absurd (branch-leaps b)) (last-cases known n.op n.operands w e)
 
   -- a node that stays as it is
-  plain-known : AreKnown u (known_behind known n)
+  plain-known : AreKnown u (known_after known n)
   plain-known r v h = by n.op n.operands refl refl (sym (ap (λ o. or_else o (if is_written n r then None else known r)) refl) ∙ h)
     where
       movi : (q : Reg) (w : ℕ) → n.op ≡ op.Plain plain.Movi → n.operands ≡ operand.Reg q ∷ operand.Number w ∷ [] → reg u r ≡ Some v
@@ -282,8 +282,8 @@ module _ (t : Text) (n : Node) (s u : State) (bytes : List ℕ) (known : Reg →
           reg-of : (a b : Reg) → operand.Reg a ≡ operand.Reg b → a ≡ b
           reg-of a b e = cc
 
-          opened : (q : Reg) (w : ℕ) → n.op ≡ op.Plain plain.Movi → n.operands ≡ operand.Reg q ∷ operand.Number w ∷ [] → known_behind known n r ≡ or_else (if is_same q r then Some w else None) (if is_register r (operand.Reg q) then None else known r)
-          opened q w eo ex = ap (λ o. known_behind known (record n { op = o }) r) eo ∙ ap (λ xs. known_behind known (record n { op = op.Plain plain.Movi; operands = xs }) r) ex ∙ unfolded (is_register r (operand.Reg q))
+          opened : (q : Reg) (w : ℕ) → n.op ≡ op.Plain plain.Movi → n.operands ≡ operand.Reg q ∷ operand.Number w ∷ [] → known_after known n r ≡ or_else (if is_same q r then Some w else None) (if is_register r (operand.Reg q) then None else known r)
+          opened q w eo ex = ap (λ o. known_after known (record n { op = o }) r) eo ∙ ap (λ xs. known_after known (record n { op = op.Plain plain.Movi; operands = xs }) r) ex ∙ unfolded (is_register r (operand.Reg q))
             where
               unfolded : (b : Bool) → or_else (if is_same q r then Some w else None) (if (b || false) then None else known r) ≡ or_else (if is_same q r then Some w else None) (if b then None else known r)
               unfolded true = refl
@@ -293,10 +293,10 @@ module _ (t : Text) (n : Node) (s u : State) (bytes : List ℕ) (known : Reg →
       by (op.Plain plain.Movi) (operand.Reg q ∷ operand.Number w ∷ []) eo ex h = movi q w eo ex
       by o xs eo ex h = kept-known r v (sym (ap (λ z. or_else z (if is_written n r then None else known r)) (ap (λ p. moved_number p n.operands r) eo ∙ ap (λ ys. moved_number o ys r) ex)) ∙ h)
 
-  pub known-on : AreKnown u (known_behind known (folded known n))
+  pub known-on : AreKnown u (known_after known (folded known n))
   known-on = by (made known n.op n.operands) (last_known known n.op n.operands) refl refl
     where
-      by : (p q : Option ℕ) → made known n.op n.operands ≡ p → last_known known n.op n.operands ≡ q → AreKnown u (known_behind known (folded_by n p q))
+      by : (p q : Option ℕ) → made known n.op n.operands ≡ p → last_known known n.op n.operands ≡ q → AreKnown u (known_after known (folded_by n p q))
       by (Some w) q ep eq = made-known w ep
       by None (Some w) ep eq = last-known w eq
       by None None ep eq = plain-known
@@ -389,11 +389,11 @@ module _ (l m : LabelledNodes) (shape new_shape : TextShape) (A : List ℕ) (is 
   at-form = formed_at l shape A is (well_shaped l is.accepted) (has_functions l is.accepted) formed
 
   -- nothing is known after a transfer of control, and at a label
-  fresh-behind : (i : ℕ) (n : Node) → slice_get l.nodes i ≡ Some n → leaps n.op ≡ true → known_before m (i + 1) ≡ none_known
+  fresh-after : (i : ℕ) (n : Node) → slice_get l.nodes i ≡ Some n → leaps n.op ≡ true → known_before m (i + 1) ≡ none_known
   unfolding known_before
-  fresh-behind i n e h =
+  fresh-after i n e h =
       ap (known_before m) (add-one i)
-      ∙ ap (λ f. if is_labelled m.places (suc i) then none_known else f) (ap (known_at (known_before m i)) (to.nodes i n e) ∙ ap (λ b. if b then none_known else known_behind (known_before m i) (folded (known_before m i) n)) (folded-leaps (known_before m i) n ∙ h))
+      ∙ ap (λ f. if is_labelled m.places (suc i) then none_known else f) (ap (known_at (known_before m i)) (to.nodes i n e) ∙ ap (λ b. if b then none_known else known_after (known_before m i) (folded (known_before m i) n)) (folded-leaps (known_before m i) n ∙ h))
       ∙ by (is_labelled m.places (suc i))
     where
       by : (b : Bool) → (if b then none_known else none_known) ≡ none_known
@@ -405,12 +405,12 @@ module _ (l m : LabelledNodes) (shape new_shape : TextShape) (A : List ℕ) (is 
   fresh-at zero h = refl
   fresh-at (suc k) h = ap (λ b. if b then none_known else known_at (known_before m k) (slice_get m.nodes k)) h
 
-  next-known : (i : ℕ) (n : Node) → slice_get l.nodes i ≡ Some n → leaps n.op ≡ false → is_labelled m.places (i + 1) ≡ false → known_before m (i + 1) ≡ known_behind (known_before m i) (folded (known_before m i) n)
+  next-known : (i : ℕ) (n : Node) → slice_get l.nodes i ≡ Some n → leaps n.op ≡ false → is_labelled m.places (i + 1) ≡ false → known_before m (i + 1) ≡ known_after (known_before m i) (folded (known_before m i) n)
   unfolding known_before
   next-known i n e h free =
       ap (known_before m) (add-one i)
       ∙ ap (λ b. if b then none_known else known_at (known_before m i) (slice_get m.nodes i)) (ap (is_labelled m.places) (sym (add-one i)) ∙ free)
-      ∙ ap (known_at (known_before m i)) (to.nodes i n e) ∙ ap (λ b. if b then none_known else known_behind (known_before m i) (folded (known_before m i) n)) (folded-leaps (known_before m i) n ∙ h)
+      ∙ ap (known_at (known_before m i)) (to.nodes i n e) ∙ ap (λ b. if b then none_known else known_after (known_before m i) (folded (known_before m i) n)) (folded-leaps (known_before m i) n ∙ h)
 
   at-fresh : (u : State) → known_before m u.at ≡ none_known → AreKnown u (known_before m u.at)
   at-fresh u e = subst (AreKnown u) (sym e) (λ r v z. absurd (nothing v z))
@@ -434,10 +434,10 @@ module _ (l m : LabelledNodes) (shape new_shape : TextShape) (A : List ℕ) (is 
       back f fs e at =
           let linked : AreLinked l shape s.frame (f ∷ fs) = subst (AreLinked l shape s.frame) e good.0.fits.linked in
           let c = linked.0 in
-          to-node (c.at + 1) (at ∙ c.back) (fresh-behind c.at c.node c.here (call-leaps c.node.op c.calls))
+          to-node (c.at + 1) (at ∙ c.back) (fresh-after c.at c.node c.here (call-leaps c.node.op c.calls))
 
       arrived : leaps n.0.op ≡ true → Arrives l s u → AreKnown u (known_before m u.at)
-      arrived h (inl e) = to-node (s.at + 1) e (fresh-behind s.at n.0 n.1 h)
+      arrived h (inl e) = to-node (s.at + 1) e (fresh-after s.at n.0 n.1 h)
       arrived h (inr (inl e)) = at-fresh u (labelled u.at e)
       arrived h (inr (inr e)) = back e.1 e.2 e.3 e.0
 

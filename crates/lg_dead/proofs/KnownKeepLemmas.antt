@@ -30,8 +30,8 @@ use Rattle.lg_opt.specs.Remaining.{new_number, moved_place, retargeted, rewritte
 use Rattle.lg_opt.proofs.LabelLemmas.{label-there, labelled-bound}
 use Rattle.lg_opt.proofs.MovedLemmas.{same-op, stands}
 use Rattle.lg_opt.proofs.RemainingLemmas.{number-zero, number-stays, number-goes}
-use Rattle.lg_dead.specs.Known.{number_in, both_known, made, last_known, can_be_folded, moved_number, or_else, known_behind, known_before}
-use Rattle.lg_dead.proofs.KnownLemmas.{unwritten-known, behind-cases, fresh-at, known-step, came}
+use Rattle.lg_dead.specs.Known.{number_in, both_known, made, last_known, can_be_folded, moved_number, or_else, known_after, known_before}
+use Rattle.lg_dead.proofs.KnownLemmas.{unwritten-known, after-cases, fresh-at, known-step, came}
 use Rattle.lg_dead.proofs.FoldNodeLemmas.{BinaryMade, UnaryMade, BinaryLast, BranchLast, made-cases, last-cases}
 
 no : true ≡ false → ⊥
@@ -82,13 +82,13 @@ module _ (l : LabelledNodes) (keep : ℕ → Bool) (targets : ℕ → Option Lab
           let one : c.node ≡ retargeted (targets i) n.0 = same_Some c.node (retargeted (targets i) n.0) (sym c.here ∙ stands l keep targets i n.0 n.1 s) in
           let falls : leaps n.0.op ≡ false = ap leaps (sym (same-op (targets i) n.0)) ∙ ap (λ (x : Node). leaps x.op) (sym one) ∙ c.falls in
           let same : c.node ≡ n.0 = one ∙ calm i n.0 n.1 falls in
-          let old : known_before l (suc i) r ≡ known_behind (known_before l i) n.0 r = ap (λ f. f r) (known-step l i n.0 n.1 (free-old (suc i) r v e) falls) in
+          let old : known_before l (suc i) r ≡ known_after (known_before l i) n.0 r = ap (λ f. f r) (known-step l i n.0 n.1 (free-old (suc i) r v e) falls) in
           old ∙ ⊎_elim
           (λ (x : moved_number c.node.op c.node.operands r ≡ Some v). ap (λ o. or_else o (if is_written n.0 r then None else known_before l i r)) (ap (λ (y : Node). moved_number y.op y.operands r) (sym same) ∙ x))
           (λ (x : (is_written c.node r ≡ false) × (known_before m (nu i) r ≡ Some v)).
           let w : is_written n.0 r ≡ false = ap (λ (y : Node). is_written y r) (sym same) ∙ x.0 in
           unwritten-known (known_before l i) n.0 r w ∙ again v (passes i n.0 r n.1 falls w of) x.1)
-          (behind-cases (known_before m (nu i)) c.node r v c.known)
+          (after-cases (known_before m (nu i)) c.node r v c.known)
 
 -- ---- nodes can be folded only by what they read
 

@@ -22,7 +22,7 @@ use Rattle.lg_opt.proofs.FunctionLemmas.{element}
 use Rattle.lg_node.specs.Labels.{is_labelled}
 use Rattle.lg_node.specs.Nodes.{LabelledNodes}
 use Rattle.lg_node.proofs.FunctionLaws.{node_within}
-use Rattle.lg_dead.specs.Known.{none_known, moved_number, or_else, known_behind, known_at, known_before, IsKnown, KnownIsMovedLast}
+use Rattle.lg_dead.specs.Known.{none_known, moved_number, or_else, known_after, known_at, known_before, IsKnown, KnownIsMovedLast}
 use Rattle.lg_dead.proofs.FoldRunLemmas.{is-same}
 
 nothing : (v : ℕ) → ◌≡◌ {A = Option ℕ} None (Some v) → ⊥
@@ -53,7 +53,7 @@ moved-written n r w e = by n.op n.operands refl refl e
     by (op.Plain plain.Movi) (operand.Reg q ∷ operand.Number v ∷ []) eo ex e = movi-writes n q v r eo ex ∙ if-some (is_same q r) v e
     by o xs eo ex e = absurd (nothing w e)
 
-pub unwritten-known : (known : Reg → Option ℕ) (n : Node) (r : Reg) → is_written n r ≡ false → known_behind known n r ≡ known r
+pub unwritten-known : (known : Reg → Option ℕ) (n : Node) (r : Reg) → is_written n r ≡ false → known_after known n r ≡ known r
 unwritten-known known n r w = by (moved_number n.op n.operands r) refl
   where
     by : (o : Option ℕ) → moved_number n.op n.operands r ≡ o → or_else o (if is_written n r then None else known r) ≡ known r
@@ -61,9 +61,9 @@ unwritten-known known n r w = by (moved_number n.op n.operands r) refl
     by (Some v) e = absurd (no (sym (moved-written n r v e) ∙ w))
 
 -- what is known after a node is so by the node, or was so before it
-pub behind-cases : (known : Reg → Option ℕ) (n : Node) (r : Reg) (v : ℕ) → known_behind known n r ≡ Some v
+pub after-cases : (known : Reg → Option ℕ) (n : Node) (r : Reg) (v : ℕ) → known_after known n r ≡ Some v
     → (moved_number n.op n.operands r ≡ Some v) ⊎ ((is_written n r ≡ false) × (known r ≡ Some v))
-behind-cases known n r v e = by (moved_number n.op n.operands r) refl e
+after-cases known n r v e = by (moved_number n.op n.operands r) refl e
   where
     written : (b : Bool) → is_written n r ≡ b → (if b then None else known r) ≡ Some v → (is_written n r ≡ false) × (known r ≡ Some v)
     written true w e = absurd (nothing v e)
@@ -92,7 +92,7 @@ no-fp-known l (suc i) = by (is_labelled l.places (suc i)) (slice_get l.nodes i) 
     no-move (op.Plain plain.Movi) (operand.Reg q ∷ operand.Number v ∷ []) = ap (λ b. if b then Some v else None) (same-fp q)
     no-move o xs = refl
 
-    behind : (n : Node) → known_before l i Fp ≡ None → known_behind (known_before l i) n Fp ≡ None
+    behind : (n : Node) → known_before l i Fp ≡ None → known_after (known_before l i) n Fp ≡ None
     behind n h = ap (λ o. or_else o (if is_written n Fp then None else known_before l i Fp)) (no-move n.op n.operands) ∙ if-none (is_written n Fp)
       where
         if-none : (b : Bool) → (if b then None else known_before l i Fp) ≡ None
@@ -103,7 +103,7 @@ no-fp-known l (suc i) = by (is_labelled l.places (suc i)) (slice_get l.nodes i) 
     at None h = refl
     at (Some n) h = leap (leaps n.op)
       where
-        leap : (b : Bool) → (if b then none_known else known_behind (known_before l i) n) Fp ≡ None
+        leap : (b : Bool) → (if b then none_known else known_after (known_before l i) n) Fp ≡ None
         leap true = refl
         leap false = behind n h
 
@@ -118,11 +118,11 @@ fresh-at l zero h = refl
 fresh-at l (suc k) h = ap (λ b. if b then none_known else known_at (known_before l k) (slice_get l.nodes k)) h
 
 -- one node further
-pub known-step : (l : LabelledNodes) (i : ℕ) (n : Node) → slice_get l.nodes i ≡ Some n → is_labelled l.places (suc i) ≡ false → leaps n.op ≡ false → known_before l (suc i) ≡ known_behind (known_before l i) n
+pub known-step : (l : LabelledNodes) (i : ℕ) (n : Node) → slice_get l.nodes i ≡ Some n → is_labelled l.places (suc i) ≡ false → leaps n.op ≡ false → known_before l (suc i) ≡ known_after (known_before l i) n
 unfolding known_before
 known-step l i n e free h =
     ap (λ b. if b then none_known else known_at (known_before l i) (slice_get l.nodes i)) free
-    ∙ ap (known_at (known_before l i)) e ∙ ap (λ b. if b then none_known else known_behind (known_before l i) n) h
+    ∙ ap (known_at (known_before l i)) e ∙ ap (λ b. if b then none_known else known_after (known_before l i) n) h
 
 -- something is known only where no label is, after a node that goes on
 pub record Came (l : LabelledNodes) (i : ℕ) (r : Reg) (v : ℕ) : Type 0 where
@@ -130,13 +130,13 @@ pub record Came (l : LabelledNodes) (i : ℕ) (r : Reg) (v : ℕ) : Type 0 where
   pub here : slice_get l.nodes i ≡ Some node
   pub free : is_labelled l.places (suc i) ≡ false
   pub falls : leaps node.op ≡ false
-  pub known : known_behind (known_before l i) node r ≡ Some v
+  pub known : known_after (known_before l i) node r ≡ Some v
 
 pub came : (l : LabelledNodes) (i : ℕ) (r : Reg) (v : ℕ) → known_before l (suc i) r ≡ Some v → Came l i r v
 unfolding known_before
 came l i r v e = by (is_labelled l.places (suc i)) (slice_get l.nodes i) refl refl e
   where
-    leap : (n : Node) → slice_get l.nodes i ≡ Some n → is_labelled l.places (suc i) ≡ false → (b : Bool) → leaps n.op ≡ b → (if b then none_known else known_behind (known_before l i) n) r ≡ Some v → Came l i r v
+    leap : (n : Node) → slice_get l.nodes i ≡ Some n → is_labelled l.places (suc i) ≡ false → (b : Bool) → leaps n.op ≡ b → (if b then none_known else known_after (known_before l i) n) r ≡ Some v → Came l i r v
     leap n h f true g e = absurd (nothing v e)
     leap n h f false g e = record { node = n; here = h; free = f; falls = g; known = e }
 
@@ -224,7 +224,7 @@ module _ (l : LabelledNodes) where
           ⊎_elim
           (λ (m : moved_number c.node.op c.node.operands r ≡ Some v). just-moved i r v c.free c.node c.here c.falls m)
           (λ (x : (is_written c.node r ≡ false) × (known_before l i r ≡ Some v)). moved-before i r v c.free c.node c.here c.falls x.0 (again x.1))
-          (behind-cases (known_before l i) c.node r v c.known)
+          (after-cases (known_before l i) c.node r v c.known)
 
   -- ---- what was moved is known
   module _ (formed : All InForm l.nodes) (k : ℕ) (r : Reg) (v : ℕ) (le : k ≤ length l.nodes) (is : IsKnown l k r v) where

@@ -29,7 +29,7 @@ use Rattle.lg_node.proofs.SuccessorLaws.{has_functions}
 use Rattle.lg_node.proofs.WellShaped.{well_shaped}
 use Rattle.lg_meaning.proofs.MeanLemmas.{formed_at}
 use Rattle.lg_live.specs.Definitions.{defines}
-use Rattle.lg_opt.specs.Moves.{Move, move_of, no_sources, is_equal, is_source, is_idle, unless_written, behind_other, behind_move, behind_node, behind_at, sources_before}
+use Rattle.lg_opt.specs.Moves.{Move, move_of, no_sources, is_equal, is_source, is_idle, unless_written, after_other, after_move, after_node, after_at, sources_before}
 use Rattle.lg_opt.specs.Moves as moves
 use Rattle.lg_opt.specs.Remaining.{new_number, rewritten, no_targets}
 use Rattle.lg_opt.proofs.DropLemmas.{not-fp, idle-there, drops-rewrite}
@@ -70,8 +70,8 @@ record Source (f : Reg → Option Reg) (n : Node) (r x : Reg) : Type 0 where
   from : is_written n x ≡ false
   before : f r ≡ Some x
 
-source-behind : (f : Reg → Option Reg) (n : Node) (r x : Reg) → behind_other f n r ≡ Some x → Source f n r x
-source-behind f n r x e = by (is_written n r) (f r) refl refl e
+source-after : (f : Reg → Option Reg) (n : Node) (r x : Reg) → after_other f n r ≡ Some x → Source f n r x
+source-after f n r x e = by (is_written n r) (f r) refl refl e
   where
     inner : (q : Reg) (b : Bool) → is_written n r ≡ false → f r ≡ Some q → is_written n q ≡ b → (if b then None else Some q) ≡ Some x → Source f n r x
     inner q true w g h e = absurd (none-reg x e)
@@ -84,20 +84,20 @@ source-behind f n r x e = by (is_written n r) (f r) refl refl e
     by false None w g e = absurd (none-reg x e)
     by false (Some q) w g e = inner q (is_written n q) w g refl e
 
-other-kept : (f : Reg → Option Reg) (n : Node) (r y : Reg) → Linked (behind_other f n) r y → is_written n r ≡ false → (is_written n y ≡ false) × Linked f r y
+other-kept : (f : Reg → Option Reg) (n : Node) (r y : Reg) → Linked (after_other f n) r y → is_written n r ≡ false → (is_written n y ≡ false) × Linked f r y
 other-kept f n r y (same r1) w = (w, same r)
-other-kept f n r y (up r1 x y1 e z h) w = let s = source-behind f n r x e in let k = other-kept f n x y h s.from in (k.0, up r x y s.before z k.1)
-other-kept f n r y (down r1 x y1 e z h) w = let s = source-behind f n x r e in let k = other-kept f n x y h s.into in (k.0, down r x y s.before z k.1)
+other-kept f n r y (up r1 x y1 e z h) w = let s = source-after f n r x e in let k = other-kept f n x y h s.from in (k.0, up r x y s.before z k.1)
+other-kept f n r y (down r1 x y1 e z h) w = let s = source-after f n x r e in let k = other-kept f n x y h s.into in (k.0, down r x y s.before z k.1)
 
-other-written : (f : Reg → Option Reg) (n : Node) (r y : Reg) → Linked (behind_other f n) r y → is_written n r ≡ true → r ≡ y
+other-written : (f : Reg → Option Reg) (n : Node) (r y : Reg) → Linked (after_other f n) r y → is_written n r ≡ true → r ≡ y
 other-written f n r y (same r1) w = refl
-other-written f n r y (up r1 x y1 e z h) w = let s = source-behind f n r x e in absurd (no (sym w ∙ s.into))
-other-written f n r y (down r1 x y1 e z h) w = let s = source-behind f n x r e in absurd (no (sym w ∙ s.from))
+other-written f n r y (up r1 x y1 e z h) w = let s = source-after f n r x e in absurd (no (sym w ∙ s.into))
+other-written f n r y (down r1 x y1 e z h) w = let s = source-after f n x r e in absurd (no (sym w ∙ s.from))
 
 -- after a move
 module _ (f : Reg → Option Reg) (n : Node) (k : Move) (into : is_written n k.into ≡ true) (from : is_written n k.from ≡ false) (only : (r : Reg) → is_written n r ≡ true → k.into ≡ r) where
   abbrev g : Reg → Option Reg
-  g = behind_move f n k
+  g = after_move f n k
 
   g-into : g k.into ≡ Some k.from
   g-into = by (is_equal k.into k.into) refl
@@ -111,7 +111,7 @@ module _ (f : Reg → Option Reg) (n : Node) (k : Move) (into : is_written n k.i
       equal V2 = refl
       equal Fp = refl
 
-      by : (b : Bool) → is_equal k.into k.into ≡ b → (if b then Some k.from else behind_other f n k.into) ≡ Some k.from
+      by : (b : Bool) → is_equal k.into k.into ≡ b → (if b then Some k.from else after_other f n k.into) ≡ Some k.from
       by true e = refl
       by false e = absurd (no (sym (equal k.into) ∙ e))
 
@@ -119,9 +119,9 @@ module _ (f : Reg → Option Reg) (n : Node) (k : Move) (into : is_written n k.i
   g-source : (r x : Reg) → g r ≡ Some x → ((k.into ≡ r) × (k.from ≡ x)) ⊎ Source f n r x
   g-source r x e = by (is_equal k.into r) refl e
     where
-      by : (b : Bool) → is_equal k.into r ≡ b → (if b then Some k.from else behind_other f n r) ≡ Some x → ((k.into ≡ r) × (k.from ≡ x)) ⊎ Source f n r x
+      by : (b : Bool) → is_equal k.into r ≡ b → (if b then Some k.from else after_other f n r) ≡ Some x → ((k.into ≡ r) × (k.from ≡ x)) ⊎ Source f n r x
       by true h e = inl (same-reg k.into r h, some-reg k.from x e)
-      by false h e = inr (source-behind f n r x e)
+      by false h e = inr (source-after f n r x e)
 
   abbrev Outside : Reg → Reg → Type 0
   Outside r y = ((y ≡ k.into) × (k.from ≢ Fp) × Linked f r k.from) ⊎ ((is_written n y ≡ false) × Linked f r y)
@@ -257,11 +257,11 @@ module _ (l : LabelledNodes) (shape new_shape : TextShape) (is : IsShapeOf l sha
   at-form : (i : ℕ) (n : Node) → slice_get l.nodes i ≡ Some n → InForm n
   at-form = formed_at l shape [] is (well_shaped l is.accepted) (has_functions l is.accepted) formed
 
-  fresh-behind : (i : ℕ) (n : Node) → slice_get l.nodes i ≡ Some n → leaps n.op ≡ true → sources_before l (i + 1) ≡ no_sources
+  fresh-after : (i : ℕ) (n : Node) → slice_get l.nodes i ≡ Some n → leaps n.op ≡ true → sources_before l (i + 1) ≡ no_sources
   unfolding sources_before
-  fresh-behind i n e h =
+  fresh-after i n e h =
       ap (sources_before l) (add-one i)
-      ∙ ap (λ x. if is_labelled l.places (suc i) then no_sources else x) (ap (behind_at (sources_before l i)) e ∙ ap (λ b. if b then no_sources else behind_node (sources_before l i) n (move_of n.op n.operands)) h)
+      ∙ ap (λ x. if is_labelled l.places (suc i) then no_sources else x) (ap (after_at (sources_before l i)) e ∙ ap (λ b. if b then no_sources else after_node (sources_before l i) n (move_of n.op n.operands)) h)
       ∙ by (is_labelled l.places (suc i))
     where
       by : (b : Bool) → (if b then no_sources else no_sources) ≡ no_sources
@@ -271,18 +271,18 @@ module _ (l : LabelledNodes) (shape new_shape : TextShape) (is : IsShapeOf l sha
   fresh-at : (k : ℕ) → is_labelled l.places k ≡ true → sources_before l k ≡ no_sources
   unfolding sources_before
   fresh-at zero h = refl
-  fresh-at (suc k) h = ap (λ b. if b then no_sources else behind_at (sources_before l k) (slice_get l.nodes k)) h
+  fresh-at (suc k) h = ap (λ b. if b then no_sources else after_at (sources_before l k) (slice_get l.nodes k)) h
 
-  next-sources : (i : ℕ) (n : Node) → slice_get l.nodes i ≡ Some n → leaps n.op ≡ false → is_labelled l.places (i + 1) ≡ false → sources_before l (i + 1) ≡ behind_node (sources_before l i) n (move_of n.op n.operands)
+  next-sources : (i : ℕ) (n : Node) → slice_get l.nodes i ≡ Some n → leaps n.op ≡ false → is_labelled l.places (i + 1) ≡ false → sources_before l (i + 1) ≡ after_node (sources_before l i) n (move_of n.op n.operands)
   unfolding sources_before
   next-sources i n e h free =
       ap (sources_before l) (add-one i)
-      ∙ ap (λ b. if b then no_sources else behind_at (sources_before l i) (slice_get l.nodes i)) (ap (is_labelled l.places) (sym (add-one i)) ∙ free)
-      ∙ ap (behind_at (sources_before l i)) e ∙ ap (λ b. if b then no_sources else behind_node (sources_before l i) n (move_of n.op n.operands)) h
+      ∙ ap (λ b. if b then no_sources else after_at (sources_before l i) (slice_get l.nodes i)) (ap (is_labelled l.places) (sym (add-one i)) ∙ free)
+      ∙ ap (after_at (sources_before l i)) e ∙ ap (λ b. if b then no_sources else after_node (sources_before l i) n (move_of n.op n.operands)) h
 
   -- what is known at a successor
   abbrev Arrives : ℕ → ℕ → Node → Type 0
-  Arrives i k n = (sources_before l k ≡ no_sources) ⊎ ((k ≡ i + 1) × (sources_before l k ≡ behind_node (sources_before l i) n (move_of n.op n.operands)))
+  Arrives i k n = (sources_before l k ≡ no_sources) ⊎ ((k ≡ i + 1) × (sources_before l k ≡ after_node (sources_before l i) n (move_of n.op n.operands)))
 
   target-labelled : (n : Node) (k : ℕ) → (xs : List Operand) → target_of l.places xs ≡ Some (place.Node k) → is_labelled l.places k ≡ true
   target-labelled n k (operand.Label y ∷ xs) e = labelled-at l.places y k e
@@ -299,10 +299,10 @@ module _ (l : LabelledNodes) (shape new_shape : TextShape) (is : IsShapeOf l sha
       g = subst (λ (x : Node). GoesBy l shape i x (way_of x.op) k) (same_Some c.node n (sym c.here ∙ e)) c.goes
 
       leap : leaps n.op ≡ true → (w : Way) → GoesBy l shape i n w k → sources_before l k ≡ no_sources
-      leap h Next g = ap (sources_before l) g.0 ∙ fresh-behind i n e h
+      leap h Next g = ap (sources_before l) g.0 ∙ fresh-after i n e h
       leap h Jump g = fresh-at k (target-labelled n k n.operands g)
       leap h Either (inl g) = fresh-at k (target-labelled n k n.operands g)
-      leap h Either (inr g) = ap (sources_before l) g.0 ∙ fresh-behind i n e h
+      leap h Either (inr g) = ap (sources_before l) g.0 ∙ fresh-after i n e h
       leap h Taken g = fresh-at k (labelled-bound l.places g.label k g.place)
       leap h Leave g = absurd g
 
@@ -345,11 +345,11 @@ module _ (l : LabelledNodes) (shape new_shape : TextShape) (is : IsShapeOf l sha
       by (Some k) g true h = idle (kept ∙ ap not h) k g (sym (ap (is_idle (sources_before l i)) g) ∙ h)
       by (Some k) g false h = fresh (kept ∙ ap not h) k g (sym (ap (is_idle (sources_before l i)) g) ∙ h)
 
-  behind-idle : (i : ℕ) (n : Node) (k : Move) → move_of n.op n.operands ≡ Some k → is_idle (sources_before l i) (Some k) ≡ true → behind_node (sources_before l i) n (move_of n.op n.operands) ≡ sources_before l i
-  behind-idle i n k g h = ap (behind_node (sources_before l i) n) g ∙ ap (λ b. if b then sources_before l i else behind_move (sources_before l i) n k) h
+  after-idle : (i : ℕ) (n : Node) (k : Move) → move_of n.op n.operands ≡ Some k → is_idle (sources_before l i) (Some k) ≡ true → after_node (sources_before l i) n (move_of n.op n.operands) ≡ sources_before l i
+  after-idle i n k g h = ap (after_node (sources_before l i) n) g ∙ ap (λ b. if b then sources_before l i else after_move (sources_before l i) n k) h
 
-  behind-fresh : (i : ℕ) (n : Node) (k : Move) → move_of n.op n.operands ≡ Some k → is_idle (sources_before l i) (Some k) ≡ false → behind_node (sources_before l i) n (move_of n.op n.operands) ≡ behind_move (sources_before l i) n k
-  behind-fresh i n k g h = ap (behind_node (sources_before l i) n) g ∙ ap (λ b. if b then sources_before l i else behind_move (sources_before l i) n k) h
+  after-fresh : (i : ℕ) (n : Node) (k : Move) → move_of n.op n.operands ≡ Some k → is_idle (sources_before l i) (Some k) ≡ false → after_node (sources_before l i) n (move_of n.op n.operands) ≡ after_move (sources_before l i) n k
+  after-fresh i n k g h = ap (after_node (sources_before l i) n) g ∙ ap (λ b. if b then sources_before l i else after_move (sources_before l i) n k) h
 
   first-false : (b c : Bool) → (b || c) ≡ false → b ≡ false
   first-false true c e = cc
@@ -386,17 +386,17 @@ module _ (l : LabelledNodes) (shape new_shape : TextShape) (is : IsShapeOf l sha
       reads-from : (r : Reg) → is_read n r ≡ true → b.from ≡ r
       reads-from r h = is-same b.from r (sym (move-reads n b mv r) ∙ h)
 
-      split : (r y : Reg) → Linked (behind_move (sources_before l i) n b) r y → (is_written n r ≡ false → r ≢ Fp → Outside (sources_before l i) n b into from only r y) × (b.into ≡ r → Inside (sources_before l i) n b into from only y)
+      split : (r y : Reg) → Linked (after_move (sources_before l i) n b) r y → (is_written n r ≡ false → r ≢ Fp → Outside (sources_before l i) n b into from only r y) × (b.into ≡ r → Inside (sources_before l i) n b into from only y)
       split = move-kept (sources_before l i) n b into from only
 
-      fresh-read : (r q y : Reg) → is_read n r ≡ true → is_written n q ≡ true → Linked (behind_move (sources_before l i) n b) q y → IsNeeded m new_shape y (nu k) → Stands i r
+      fresh-read : (r q y : Reg) → is_read n r ≡ true → is_written n q ≡ true → Linked (after_move (sources_before l i) n b) q y → IsNeeded m new_shape y (nu k) → Stands i r
       fresh-read r q y rd w h x = by ((split q y h).1 (only q w))
         where
           by : (y ≡ b.into) ⊎ ((is_written n y ≡ false) × Linked (sources_before l i) b.from y) → Stands i r
           by (inl z) = (r, same r, at-read i k n e s c r b.into rd into (subst (λ t. IsNeeded m new_shape t (nu k)) z x))
           by (inr z) = (y, subst (λ t. Linked (sources_before l i) t y) (reads-from r rd) z.1, at-other i k n e s c r y x z.0)
 
-      fresh-kept : (r y : Reg) → is_written n r ≡ false → r ≢ Fp → Linked (behind_move (sources_before l i) n b) r y → IsNeeded m new_shape y (nu k) → Stands i r
+      fresh-kept : (r y : Reg) → is_written n r ≡ false → r ≢ Fp → Linked (after_move (sources_before l i) n b) r y → IsNeeded m new_shape y (nu k) → Stands i r
       fresh-kept r y w nf h x = by ((split r y h).0 w nf)
         where
           by : ((y ≡ b.into) × (b.from ≢ Fp) × Linked (sources_before l i) r b.from) ⊎ ((is_written n y ≡ false) × Linked (sources_before l i) r y) → Stands i r
@@ -423,7 +423,7 @@ module _ (l : LabelledNodes) (shape new_shape : TextShape) (is : IsShapeOf l sha
 
       came : (r : Reg) → Stands k r → Arrives i k n → Stands i r
       came r h (inl z) = (r, same r, subst (IsNeeded m new_shape r) number (alone-needed r z h))
-      came r h (inr z) = (h.0, subst (λ g. Linked g r h.0) (z.1 ∙ behind-idle i n b mv ne) h.1, subst (IsNeeded m new_shape h.0) number h.2)
+      came r h (inr z) = (h.0, subst (λ g. Linked g r h.0) (z.1 ∙ after-idle i n b mv ne) h.1, subst (IsNeeded m new_shape h.0) number h.2)
 
       -- what the move reads holds what it writes
       idle-read : (r : Reg) → b.from ≡ r → Stands i b.into → Stands i r
@@ -442,10 +442,10 @@ module _ (l : LabelledNodes) (shape new_shape : TextShape) (is : IsShapeOf l sha
         by : Kind i n → Arrives i k n → Stands i r
         by (idle s b mv ne) z = came s b mv ne r h z
         by (fresh s b mv ne) (inl z) = plain-kept s r w (alone-needed r z h)
-        by (fresh s b mv ne) (inr z) = fresh-kept s b mv ne r h.0 w nf (subst (λ g. Linked g r h.0) (z.1 ∙ behind-fresh i n b mv ne) h.1) h.2
+        by (fresh s b mv ne) (inr z) = fresh-kept s b mv ne r h.0 w nf (subst (λ g. Linked g r h.0) (z.1 ∙ after-fresh i n b mv ne) h.1) h.2
         by (other s mv) (inl z) = plain-kept s r w (alone-needed r z h)
         by (other s mv) (inr z) =
-            let o = other-kept (sources_before l i) n r h.0 (subst (λ g. Linked g r h.0) (z.1 ∙ ap (behind_node (sources_before l i) n) mv) h.1) w in
+            let o = other-kept (sources_before l i) n r h.0 (subst (λ g. Linked g r h.0) (z.1 ∙ ap (after_node (sources_before l i) n) mv) h.1) w in
             (h.0, o.1, at-other i k n e s c r h.0 h.2 o.0)
 
     read-over : (r q : Reg) → is_read n r ≡ true → is_written n q ≡ true → Stands k q → Stands i r
@@ -457,10 +457,10 @@ module _ (l : LabelledNodes) (shape new_shape : TextShape) (is : IsShapeOf l sha
             let r-is : b.from ≡ r = is-same b.from r (sym (move-reads n b mv r) ∙ rd) in
             idle-read s b mv ne r r-is (came s b mv ne b.into (subst (Stands k) (sym q-is) h) z)
         by (fresh s b mv ne) (inl z) = plain-read s r q rd w (alone-needed q z h)
-        by (fresh s b mv ne) (inr z) = fresh-read s b mv ne r q h.0 rd w (subst (λ g. Linked g q h.0) (z.1 ∙ behind-fresh i n b mv ne) h.1) h.2
+        by (fresh s b mv ne) (inr z) = fresh-read s b mv ne r q h.0 rd w (subst (λ g. Linked g q h.0) (z.1 ∙ after-fresh i n b mv ne) h.1) h.2
         by (other s mv) (inl z) = plain-read s r q rd w (alone-needed q z h)
         by (other s mv) (inr z) =
-            let o = other-written (sources_before l i) n q h.0 (subst (λ g. Linked g q h.0) (z.1 ∙ ap (behind_node (sources_before l i) n) mv) h.1) w in
+            let o = other-written (sources_before l i) n q h.0 (subst (λ g. Linked g q h.0) (z.1 ∙ ap (after_node (sources_before l i) n) mv) h.1) w in
             plain-read s r q rd w (subst (λ t. IsNeeded m new_shape t (nu k)) (sym o) h.2)
 
   stands-needed : (r : Reg) (i : ℕ) → IsNeeded l shape r i → Stands i r
@@ -478,7 +478,7 @@ module _ (l : LabelledNodes) (shape new_shape : TextShape) (is : IsShapeOf l sha
     where
       by : Arrives i k n → IsNeeded m new_shape q (nu k)
       by (inl z) = alone-needed i k n e c q z h
-      by (inr z) = subst (λ t. IsNeeded m new_shape t (nu k)) (sym (other-written (sources_before l i) n q h.0 (subst (λ g. Linked g q h.0) (z.1 ∙ ap (behind_node (sources_before l i) n) (other-no-move n.op n.operands d)) h.1) w)) h.2
+      by (inr z) = subst (λ t. IsNeeded m new_shape t (nu k)) (sym (other-written (sources_before l i) n q h.0 (subst (λ g. Linked g q h.0) (z.1 ∙ ap (after_node (sources_before l i) n) (other-no-move n.op n.operands d)) h.1) w)) h.2
 
   pub no-dead-but-moves : AllAreOfUse l shape → HasNoDeadButMoves (rewritten l (moves.stays l) no_targets) new_shape
   no-dead-but-moves all j n e d mv =

@@ -14,7 +14,7 @@ use Rattle.lg_node.specs.Checks.{IsAccepted}
 use Rattle.lg_node.specs.Nodes.{LabelledNodes}
 use Rattle.lg_node.specs.Shapes.{TextShape, IsSuccessor, GoesBy, Way, Next, Jump, Either, Taken, Leave, way_of, target_of}
 use Rattle.lg_live.specs.Uses.{is_read, is_written}
-use Rattle.lg_live.specs.Liveness.{IsLive, IsLiveBehind}
+use Rattle.lg_live.specs.Liveness.{IsLive, IsLiveAfter}
 use Rattle.lg_live.specs.Liveness as live
 use Rattle.lg_live.specs.Definitions.{defines}
 use Rattle.lg_dead.specs.Needs.{AreNeeds}

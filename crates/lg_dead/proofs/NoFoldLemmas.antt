@@ -32,7 +32,7 @@ use Rattle.lg_node.specs.ShapeLaws.{has_target}
 use Rattle.lg_op.specs.Operators.{unary_value}
 use Rattle.lg_opt.specs.Goals.{goal_node}
 use Rattle.lg_opt.specs.Goals as goals
-use Rattle.lg_opt.specs.Moves.{Move, move_of, no_sources, is_equal, is_source, is_idle, unless_written, behind_other, behind_move, behind_node, behind_at, sources_before}
+use Rattle.lg_opt.specs.Moves.{Move, move_of, no_sources, is_equal, is_source, is_idle, unless_written, after_other, after_move, after_node, after_at, sources_before}
 use Rattle.lg_opt.specs.Moves as moves
 use Rattle.lg_opt.specs.Targets.{AreTargets}
 use Rattle.lg_opt.specs.Remaining.{new_number, with_first, retargeted, rewritten, no_targets}
@@ -43,7 +43,7 @@ use Rattle.lg_opt.proofs.RemainingLemmas.{number-goes}
 use Rattle.lg_opt.proofs.TargetLemmas.{dropped-jumps, goal-labelled, same-node}
 use Rattle.lg_opt.proofs.TidyLemmas.{move-is}
 use Rattle.lg_opt.proofs.MovedLemmas.{comes-from, new-count, stands}
-use Rattle.lg_dead.specs.Known.{made, last_known, can_be_folded, moved_number, or_else, known_behind, known_before, HasNoFolds}
+use Rattle.lg_dead.specs.Known.{made, last_known, can_be_folded, moved_number, or_else, known_after, known_before, HasNoFolds}
 use Rattle.lg_dead.proofs.FoldRunLemmas.{is-same}
 use Rattle.lg_dead.proofs.Kept.{DeadKeepsNoFolds, MovesKeepNoFolds, ThreadsKeepNoFolds}
 use Rattle.lg_dead.proofs.KnownLemmas.{no-fp-known, fresh-at, known-step, unwritten-known}
@@ -135,8 +135,8 @@ record Source (f : Reg → Option Reg) (n : Node) (r x : Reg) : Type 0 where
   from : is_written n x ≡ false
   before : f r ≡ Some x
 
-source-behind : (f : Reg → Option Reg) (n : Node) (r x : Reg) → behind_other f n r ≡ Some x → Source f n r x
-source-behind f n r x e = by (is_written n r) (f r) refl refl e
+source-after : (f : Reg → Option Reg) (n : Node) (r x : Reg) → after_other f n r ≡ Some x → Source f n r x
+source-after f n r x e = by (is_written n r) (f r) refl refl e
   where
     inner : (q : Reg) (b : Bool) → is_written n r ≡ false → f r ≡ Some q → is_written n q ≡ b → (if b then None else Some q) ≡ Some x → Source f n r x
     inner q true w g h e = absurd (none-reg x e)
@@ -162,10 +162,10 @@ module _ (n : Node) (k : Move) (e : move_of n.op n.operands ≡ Some k) where
   move-leaps = ap leaps there.0
 
   -- after a move only what it does not write is known
-  move-known : (known : Reg → Option ℕ) (r : Reg) → known_behind known n r ≡ (if is_written n r then None else known r)
+  move-known : (known : Reg → Option ℕ) (r : Reg) → known_after known n r ≡ (if is_written n r then None else known r)
   move-known known r = ap (λ o. or_else o (if is_written n r then None else known r)) (ap (λ o. moved_number o n.operands r) there.0)
 
-  move-unknown : (known : Reg → Option ℕ) (r : Reg) → known r ≡ None → known_behind known n r ≡ None
+  move-unknown : (known : Reg → Option ℕ) (r : Reg) → known r ≡ None → known_after known n r ≡ None
   move-unknown known r h = move-known known r ∙ by (is_written n r)
     where
       by : (b : Bool) → (if b then None else known r) ≡ None
@@ -196,20 +196,20 @@ module _ (l : LabelledNodes) (a : IsAccepted l) (formed : All InForm l.nodes) (n
   unknown zero x y e = absurd (none-reg y e)
   unknown (suc i) x y e = by (is_labelled l.places (suc i)) (slice_get l.nodes i) refl refl e (λ p q g. unknown i p q g)
     where
-      at-other : (n : Node) → known_before l (suc i) ≡ known_behind (known_before l i) n → Source (f i) n x y → ((p q : Reg) → f i p ≡ Some q → Unknown i p q) → Unknown (suc i) x y
+      at-other : (n : Node) → known_before l (suc i) ≡ known_after (known_before l i) n → Source (f i) n x y → ((p q : Reg) → f i p ≡ Some q → Unknown i p q) → Unknown (suc i) x y
       at-other n k s again =
           let u = again x y s.before in
           (ap (λ g. g x) k ∙ unwritten-known (known_before l i) n x s.into ∙ u.0, ap (λ g. g y) k ∙ unwritten-known (known_before l i) n y s.from ∙ u.1)
 
-      at-move : (n : Node) (k : Move) → slice_get l.nodes i ≡ Some n → move_of n.op n.operands ≡ Some k → known_before l (suc i) ≡ known_behind (known_before l i) n → (b : Bool) → is_idle (f i) (Some k) ≡ b
-          → (if b then f i else behind_move (f i) n k) x ≡ Some y → ((p q : Reg) → f i p ≡ Some q → Unknown i p q) → Unknown (suc i) x y
+      at-move : (n : Node) (k : Move) → slice_get l.nodes i ≡ Some n → move_of n.op n.operands ≡ Some k → known_before l (suc i) ≡ known_after (known_before l i) n → (b : Bool) → is_idle (f i) (Some k) ≡ b
+          → (if b then f i else after_move (f i) n k) x ≡ Some y → ((p q : Reg) → f i p ≡ Some q → Unknown i p q) → Unknown (suc i) x y
       at-move n k h mv kn true idle e again =
           let u = again x y e in
           (ap (λ g. g x) kn ∙ move-unknown n k mv (known_before l i) x u.0, ap (λ g. g y) kn ∙ move-unknown n k mv (known_before l i) y u.1)
       at-move n k h mv kn false idle e again = at-new (is_equal k.into x) refl e
         where
-          at-new : (b : Bool) → is_equal k.into x ≡ b → (if b then Some k.from else behind_other (f i) n x) ≡ Some y → Unknown (suc i) x y
-          at-new false z e = at-other n kn (source-behind (f i) n x y e) again
+          at-new : (b : Bool) → is_equal k.into x ≡ b → (if b then Some k.from else after_other (f i) n x) ≡ Some y → Unknown (suc i) x y
+          at-new false z e = at-other n kn (source-after (f i) n x y e) again
           at-new true z e =
               let into : k.into ≡ x = same-reg k.into x z in
               let from : k.from ≡ y = some-reg k.from y e in
@@ -230,13 +230,13 @@ module _ (l : LabelledNodes) (a : IsAccepted l) (formed : All InForm l.nodes) (n
               formed-here : (i : ℕ) (n : Node) → slice_get l.nodes i ≡ Some n → InForm n
               formed-here i n e = subst InForm (get_or_from_slice_get l.nodes i n n e) (All-get_or InForm l.nodes i n (slice_get_within l.nodes i n e) formed)
 
-      at-node : (n : Node) → slice_get l.nodes i ≡ Some n → is_labelled l.places (suc i) ≡ false → (b : Bool) → leaps n.op ≡ b → (o : Option Move) → move_of n.op n.operands ≡ o → (if b then no_sources else behind_node (f i) n o) x ≡ Some y
+      at-node : (n : Node) → slice_get l.nodes i ≡ Some n → is_labelled l.places (suc i) ≡ false → (b : Bool) → leaps n.op ≡ b → (o : Option Move) → move_of n.op n.operands ≡ o → (if b then no_sources else after_node (f i) n o) x ≡ Some y
           → ((p q : Reg) → f i p ≡ Some q → Unknown i p q) → Unknown (suc i) x y
       at-node n h free true lp o mv e again = absurd (none-reg y e)
-      at-node n h free false lp None mv e again = at-other n (known-step l i n h free lp) (source-behind (f i) n x y e) again
+      at-node n h free false lp None mv e again = at-other n (known-step l i n h free lp) (source-after (f i) n x y e) again
       at-node n h free false lp (Some k) mv e again = at-move n k h mv (known-step l i n h free lp) (is_idle (f i) (Some k)) refl e again
 
-      by : (b : Bool) (o : Option Node) → is_labelled l.places (suc i) ≡ b → slice_get l.nodes i ≡ o → (if b then no_sources else behind_at (f i) o) x ≡ Some y → ((p q : Reg) → f i p ≡ Some q → Unknown i p q) → Unknown (suc i) x y
+      by : (b : Bool) (o : Option Node) → is_labelled l.places (suc i) ≡ b → slice_get l.nodes i ≡ o → (if b then no_sources else after_at (f i) o) x ≡ Some y → ((p q : Reg) → f i p ≡ Some q → Unknown i p q) → Unknown (suc i) x y
       by true o free h e again = absurd (none-reg y e)
       by false None free h e again = absurd (none-reg y e)
       by false (Some n) free h e again = at-node n h free (leaps n.op) refl (move_of n.op n.operands) refl e again

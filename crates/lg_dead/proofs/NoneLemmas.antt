@@ -19,7 +19,7 @@ use Rattle.lg_op.specs.declared.operand.Operand.{Operand}
 use Rattle.lg_op.specs.declared.operand.Reg.{Reg}
 use Rattle.lg_live.specs.Uses.{is_written}
 use Rattle.lg_dead.specs.declared.known.Known.{Known}
-use Rattle.lg_dead.specs.Known.{number_in, both_known, made, last_known, folded_by, folded, is_movi, moved_number, or_else, none_known, known_behind}
+use Rattle.lg_dead.specs.Known.{number_in, both_known, made, last_known, folded_by, folded, is_movi, moved_number, or_else, none_known, known_after}
 use Rattle.lg_dead.specs.declared.known.Moved.{Moved}
 use Rattle.lg_dead.specs.Tables.{held_in, known_of, moved_to}
 use Rattle.lg_live.specs.Registers.{is_same}
@@ -35,7 +35,7 @@ pick : (b : Bool) (k : Option ℕ) → k ≡ None → (if b then None else k) �
 pick true k e = refl
 pick false k e = e
 
-pub none_behind : (k : Known) (n : Node) (r : Reg) → k.some ≡ false → is_movi n.op ≡ false → known_of k r ≡ known_behind (known_of k) n r
+pub none_behind : (k : Known) (n : Node) (r : Reg) → k.some ≡ false → is_movi n.op ≡ false → known_of k r ≡ known_after (known_of k) n r
 none_behind k n r none e =
     here ∙ sym (ap (λ o. or_else o (if is_written n r then None else known_of k r)) (nothing-moved n.op n.operands r e) ∙ pick (is_written n r) (known_of k r) here)
   where

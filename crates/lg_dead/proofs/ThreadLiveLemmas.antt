@@ -22,7 +22,7 @@ use Rattle.lg_op.specs.declared.operand.Reg.{Reg}
 use Rattle.lg_live.specs.declared.uses.Access.{Access}
 use Rattle.lg_live.specs.declared.uses.Access.TheVariants as access
 use Rattle.lg_live.specs.Uses.{is_for, is_register, names, is_call, is_read, is_written}
-use Rattle.lg_live.specs.Liveness.{IsLive, IsLiveBehind}
+use Rattle.lg_live.specs.Liveness.{IsLive, IsLiveAfter}
 use Rattle.lg_live.specs.Liveness as live
 use Rattle.lg_node.specs.declared.place.Place.{Place}
 use Rattle.lg_node.specs.declared.place.Place.TheVariants as place

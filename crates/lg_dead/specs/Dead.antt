@@ -8,7 +8,7 @@ use Rattle.lg_live.specs.RegSets.{has}
 use Rattle.lg_live.specs.declared.reg_set.RegSet.{RegSet}
 use Rattle.lg_live.specs.Uses.{is_written}
 use Rattle.lg_live.specs.Graphs.{any_register}
-use Rattle.lg_live.specs.Liveness.{IsLiveBehind}
+use Rattle.lg_live.specs.Liveness.{IsLiveAfter}
 use Rattle.lg_live.specs.Definitions.{defines}
 use Rattle.lg_live.specs.Needs.{IsNeeded}
 use Rattle.lg_opt.specs.Moves.{is_movr}
@@ -29,7 +29,7 @@ AllAreOfUse l s = (i : ℕ) (n : Node) → slice_get l.nodes i ≡ Some n → de
 pub record IsNotDead (l : LabelledNodes) (s : TextShape) (i : ℕ) (n : Node) : Type 0 where
   pub register : Reg
   pub written : is_written n register ≡ true
-  pub live : IsLiveBehind l s register i
+  pub live : IsLiveAfter l s register i
 
 -- no node is a dead definition, or none but a `movr`
 abbrev pub HasNoDead : LabelledNodes → TextShape → Type 0

@@ -83,12 +83,12 @@ abbrev pub or_else : Option ℕ → Option ℕ → Option ℕ
 or_else (Some v) o = Some v
 or_else None o = o
 
-abbrev pub known_behind : (Reg → Option ℕ) → Node → Reg → Option ℕ
-known_behind known n r = or_else (moved_number n.op n.operands r) (if is_written n r then None else known r)
+abbrev pub known_after : (Reg → Option ℕ) → Node → Reg → Option ℕ
+known_after known n r = or_else (moved_number n.op n.operands r) (if is_written n r then None else known r)
 
 abbrev pub known_at : (Reg → Option ℕ) → Option Node → Reg → Option ℕ
 known_at known None = none_known
-known_at known (Some n) = if leaps n.op then none_known else known_behind known n
+known_at known (Some n) = if leaps n.op then none_known else known_after known n
 
 -- what is known before a node, in the straight run in which it stands
 unfoldable pub known_before : LabelledNodes → ℕ → Reg → Option ℕ

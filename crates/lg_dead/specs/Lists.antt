@@ -21,8 +21,8 @@ pub record AreFolded (l : LabelledNodes) (ns : List Node) (count : ℕ) : Type 0
   pub each : (i : ℕ) (n : Node) → i < count → slice_get l.nodes i ≡ Some n → slice_get ns i ≡ Some (folded (known_before (with_nodes l ns) i) n)
 
 -- what is known after the node before one
-abbrev pub AreBehind : LabelledNodes → List Node → ℕ → Known → Type 0
-AreBehind l ns i k = (r : Reg) → (if is_labelled l.places i then None else known_of k r) ≡ known_before (with_nodes l ns) i r
+abbrev pub AreAfter : LabelledNodes → List Node → ℕ → Known → Type 0
+AreAfter l ns i k = (r : Reg) → (if is_labelled l.places i then None else known_of k r) ≡ known_before (with_nodes l ns) i r
 
 -- what folding makes of nodes
 pub record IsFoldedList (l : LabelledNodes) (shape : TextShape) (m : LabelledNodes) (new_shape : TextShape) (origin : List ℕ) : Type 0 where

@@ -5,7 +5,7 @@ ghost use Rattle.lg_op.specs.declared.operand.Reg.{Reg};
 ghost use Rattle.lg_op.specs.declared.operand.Reg.TheVariants.{R0, R1, R2, V0, V1, V2};
 ghost use Rattle.lg_live.specs.Registers.{is_same};
 ghost use Rattle.lg_live.specs.RegSets.{has};
-ghost use Rattle.lg_dead.specs.Known.{is_movi, number_in, known_behind, moved_number, or_else};
+ghost use Rattle.lg_dead.specs.Known.{is_movi, number_in, known_after, moved_number, or_else};
 ghost use Rattle.lg_dead.specs.Tables.{known_of, moved_to};
 
 use lg_live::{RegSet, writes};
@@ -196,12 +196,12 @@ impl Known {
     // Continues after a node, register by register.
     #[inline(never)]
     fn pass_each(&mut self, node: &Node)
-        ensures r0 { known_of self.new R0 ≡ known_behind (known_of self.old) node.now R0 }
-        ensures r1 { known_of self.new R1 ≡ known_behind (known_of self.old) node.now R1 }
-        ensures r2 { known_of self.new R2 ≡ known_behind (known_of self.old) node.now R2 }
-        ensures v0 { known_of self.new V0 ≡ known_behind (known_of self.old) node.now V0 }
-        ensures v1 { known_of self.new V1 ≡ known_behind (known_of self.old) node.now V1 }
-        ensures v2 { known_of self.new V2 ≡ known_behind (known_of self.old) node.now V2 }
+        ensures r0 { known_of self.new R0 ≡ known_after (known_of self.old) node.now R0 }
+        ensures r1 { known_of self.new R1 ≡ known_after (known_of self.old) node.now R1 }
+        ensures r2 { known_of self.new R2 ≡ known_after (known_of self.old) node.now R2 }
+        ensures v0 { known_of self.new V0 ≡ known_after (known_of self.old) node.now V0 }
+        ensures v1 { known_of self.new V1 ≡ known_after (known_of self.old) node.now V1 }
+        ensures v2 { known_of self.new V2 ≡ known_after (known_of self.old) node.now V2 }
     {
         self.begin();
         self.forget(writes(node));
@@ -212,7 +212,7 @@ impl Known {
     #[inline(always)]
     #[tactic(auto, using(crate::proofs::NoneLemmas::none_behind))]
     fn may_change(&self, node: &Node) -> bool
-        ensures { result ≡ false → (r : Reg) → known_of self.now r ≡ known_behind (known_of self.now) node.now r }
+        ensures { result ≡ false → (r : Reg) → known_of self.now r ≡ known_after (known_of self.now) node.now r }
     {
         self.some || is_movi(node.op)
     }
@@ -220,12 +220,12 @@ impl Known {
     /// Continues after a node of the straight run: where nothing was known, only a `movi` makes something known.
     #[inline(always)]
     pub fn pass(&mut self, node: &Node)
-        ensures r0 { known_of self.new R0 ≡ known_behind (known_of self.old) node.now R0 }
-        ensures r1 { known_of self.new R1 ≡ known_behind (known_of self.old) node.now R1 }
-        ensures r2 { known_of self.new R2 ≡ known_behind (known_of self.old) node.now R2 }
-        ensures v0 { known_of self.new V0 ≡ known_behind (known_of self.old) node.now V0 }
-        ensures v1 { known_of self.new V1 ≡ known_behind (known_of self.old) node.now V1 }
-        ensures v2 { known_of self.new V2 ≡ known_behind (known_of self.old) node.now V2 }
+        ensures r0 { known_of self.new R0 ≡ known_after (known_of self.old) node.now R0 }
+        ensures r1 { known_of self.new R1 ≡ known_after (known_of self.old) node.now R1 }
+        ensures r2 { known_of self.new R2 ≡ known_after (known_of self.old) node.now R2 }
+        ensures v0 { known_of self.new V0 ≡ known_after (known_of self.old) node.now V0 }
+        ensures v1 { known_of self.new V1 ≡ known_after (known_of self.old) node.now V1 }
+        ensures v2 { known_of self.new V2 ≡ known_after (known_of self.old) node.now V2 }
     {
         if self.may_change(node) {
             self.pass_each(node);

@@ -15,72 +15,72 @@ use Rattle.lg_node.specs.Checks.{is_bad_call}
 use Rattle.lg_node.specs.Labels.{is_at, is_labelled}
 use Rattle.lg_node.specs.Nodes.{LabelledNodes}
 use Rattle.lg_node.specs.NextLabels.{NextAt, NoneAt}
-use Rattle.lg_node.specs.Preparations.{prepared_before, prepared_behind, variadic, variadic_of, varies_before, varies_behind}
+use Rattle.lg_node.specs.Preparations.{prepared_before, prepared_after, variadic, variadic_of, varies_before, varies_after}
 use Rattle.lg_node.specs.declared.place.Place.{Place}
 use Rattle.lg_node.specs.declared.preparation.Preparation.{Preparation}
 use Rattle.lg_node.proofs.WalkLemmas.{prepared_on, prepared_start, varies_on}
 use Rattle.lg_explain.specs.Blames.{bad_call_at, label_at, label_between}
-use Rattle.lg_explain.specs.Calls.{is_bad, variadic_behind, varies_by}
+use Rattle.lg_explain.specs.Calls.{is_bad, variadic_after, varies_by}
 
 pub bad_is : (p : Option Preparation) (varies labelled : Bool) (op : Op) → is_bad_call p varies labelled op ≡ is_bad (variadic_of p) varies labelled op
 bad_is None varies labelled op = refl
 bad_is (Some call) varies labelled op = refl
 
-behind_is : (p : Option Preparation) (op : Op) → variadic_of (prepared_behind p op) ≡ variadic_behind (variadic_of p) op
-behind_is None (Binary o last) = refl
-behind_is None (Wide o last) = refl
-behind_is None (Branch o last) = refl
-behind_is None (BranchSum o last) = refl
-behind_is None (Control control.Jmp last) = refl
-behind_is None (Control control.Call last) = refl
-behind_is None (Control control.Finish last) = refl
-behind_is None (Control control.Pusharg last) = refl
-behind_is None (Control control.Ret last) = refl
-behind_is None (Unary o) = refl
-behind_is None (Plain plain.Movi) = refl
-behind_is None (Plain plain.Prepare) = refl
-behind_is None (Plain plain.Ellipsis) = refl
-behind_is None (Plain plain.Prolog) = refl
-behind_is None (Plain plain.Epilog) = refl
-behind_is None (Plain plain.Ret) = refl
-behind_is None (Plain plain.Arg) = refl
-behind_is None (Plain plain.Allocai) = refl
-behind_is None (Plain plain.Align) = refl
-behind_is None (Plain plain.VaStart) = refl
-behind_is None (Plain plain.VaArg) = refl
-behind_is None (Plain plain.VaEnd) = refl
-behind_is None (Load t at) = refl
-behind_is None (Store t at) = refl
-behind_is None (Retval t) = refl
-behind_is None (Getarg t) = refl
-behind_is (Some call) (Binary o last) = refl
-behind_is (Some call) (Wide o last) = refl
-behind_is (Some call) (Branch o last) = refl
-behind_is (Some call) (BranchSum o last) = refl
-behind_is (Some call) (Control control.Jmp last) = refl
-behind_is (Some call) (Control control.Call last) = refl
-behind_is (Some call) (Control control.Finish last) = refl
-behind_is (Some call) (Control control.Pusharg last) = refl
-behind_is (Some call) (Control control.Ret last) = refl
-behind_is (Some call) (Unary o) = refl
-behind_is (Some call) (Plain plain.Movi) = refl
-behind_is (Some call) (Plain plain.Prepare) = refl
-behind_is (Some call) (Plain plain.Ellipsis) = refl
-behind_is (Some call) (Plain plain.Prolog) = refl
-behind_is (Some call) (Plain plain.Epilog) = refl
-behind_is (Some call) (Plain plain.Ret) = refl
-behind_is (Some call) (Plain plain.Arg) = refl
-behind_is (Some call) (Plain plain.Allocai) = refl
-behind_is (Some call) (Plain plain.Align) = refl
-behind_is (Some call) (Plain plain.VaStart) = refl
-behind_is (Some call) (Plain plain.VaArg) = refl
-behind_is (Some call) (Plain plain.VaEnd) = refl
-behind_is (Some call) (Load t at) = refl
-behind_is (Some call) (Store t at) = refl
-behind_is (Some call) (Retval t) = refl
-behind_is (Some call) (Getarg t) = refl
+after_is : (p : Option Preparation) (op : Op) → variadic_of (prepared_after p op) ≡ variadic_after (variadic_of p) op
+after_is None (Binary o last) = refl
+after_is None (Wide o last) = refl
+after_is None (Branch o last) = refl
+after_is None (BranchSum o last) = refl
+after_is None (Control control.Jmp last) = refl
+after_is None (Control control.Call last) = refl
+after_is None (Control control.Finish last) = refl
+after_is None (Control control.Pusharg last) = refl
+after_is None (Control control.Ret last) = refl
+after_is None (Unary o) = refl
+after_is None (Plain plain.Movi) = refl
+after_is None (Plain plain.Prepare) = refl
+after_is None (Plain plain.Ellipsis) = refl
+after_is None (Plain plain.Prolog) = refl
+after_is None (Plain plain.Epilog) = refl
+after_is None (Plain plain.Ret) = refl
+after_is None (Plain plain.Arg) = refl
+after_is None (Plain plain.Allocai) = refl
+after_is None (Plain plain.Align) = refl
+after_is None (Plain plain.VaStart) = refl
+after_is None (Plain plain.VaArg) = refl
+after_is None (Plain plain.VaEnd) = refl
+after_is None (Load t at) = refl
+after_is None (Store t at) = refl
+after_is None (Retval t) = refl
+after_is None (Getarg t) = refl
+after_is (Some call) (Binary o last) = refl
+after_is (Some call) (Wide o last) = refl
+after_is (Some call) (Branch o last) = refl
+after_is (Some call) (BranchSum o last) = refl
+after_is (Some call) (Control control.Jmp last) = refl
+after_is (Some call) (Control control.Call last) = refl
+after_is (Some call) (Control control.Finish last) = refl
+after_is (Some call) (Control control.Pusharg last) = refl
+after_is (Some call) (Control control.Ret last) = refl
+after_is (Some call) (Unary o) = refl
+after_is (Some call) (Plain plain.Movi) = refl
+after_is (Some call) (Plain plain.Prepare) = refl
+after_is (Some call) (Plain plain.Ellipsis) = refl
+after_is (Some call) (Plain plain.Prolog) = refl
+after_is (Some call) (Plain plain.Epilog) = refl
+after_is (Some call) (Plain plain.Ret) = refl
+after_is (Some call) (Plain plain.Arg) = refl
+after_is (Some call) (Plain plain.Allocai) = refl
+after_is (Some call) (Plain plain.Align) = refl
+after_is (Some call) (Plain plain.VaStart) = refl
+after_is (Some call) (Plain plain.VaArg) = refl
+after_is (Some call) (Plain plain.VaEnd) = refl
+after_is (Some call) (Load t at) = refl
+after_is (Some call) (Store t at) = refl
+after_is (Some call) (Retval t) = refl
+after_is (Some call) (Getarg t) = refl
 
-varies_is : (varies : Bool) (p : Option Preparation) (op : Op) → varies_behind varies p op ≡ varies_by varies (variadic_of p) op
+varies_is : (varies : Bool) (p : Option Preparation) (op : Op) → varies_after varies p op ≡ varies_by varies (variadic_of p) op
 varies_is varies None (Binary o last) = refl
 varies_is varies None (Wide o last) = refl
 varies_is varies None (Branch o last) = refl
@@ -137,8 +137,8 @@ varies_is varies (Some call) (Getarg t) = refl
 pub variadic_start : (nodes : List Node) → variadic nodes 0 ≡ None
 variadic_start nodes = ap variadic_of (prepared_start nodes)
 
-pub variadic_on : (nodes : List Node) (i : ℕ) (n : Node) → slice_get nodes i ≡ Some n → variadic nodes (i + 1) ≡ variadic_behind (variadic nodes i) n.op
-variadic_on nodes i n e = ap variadic_of (prepared_on nodes i n e) ∙ behind_is (prepared_before nodes i) n.op
+pub variadic_on : (nodes : List Node) (i : ℕ) (n : Node) → slice_get nodes i ≡ Some n → variadic nodes (i + 1) ≡ variadic_after (variadic nodes i) n.op
+variadic_on nodes i n e = ap variadic_of (prepared_on nodes i n e) ∙ after_is (prepared_before nodes i) n.op
 
 pub varies_next : (nodes : List Node) (i : ℕ) (n : Node) → slice_get nodes i ≡ Some n → varies_before nodes (i + 1) ≡ varies_by (varies_before nodes i) (variadic nodes i) n.op
 varies_next nodes i n e = varies_on nodes i n e ∙ varies_is (varies_before nodes i) (prepared_before nodes i) n.op

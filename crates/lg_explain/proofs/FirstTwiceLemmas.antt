@@ -17,7 +17,7 @@ use Rattle.lg_pre.specs.Expanded.{expanded}
 use Rattle.lg_tst.specs.Streams.{text_of, without_last}
 use Rattle.lg_tst.specs.Units.{unit_of}
 use Rattle.lg_explain.specs.Lines.{shown}
-use Rattle.lg_explain.specs.Twice.{again, begins_function, forms_behind, is_made, labels_behind, made_again, made_twice, makes_label, makes_name_in, names_behind, twice_from, with_word}
+use Rattle.lg_explain.specs.Twice.{again, begins_function, forms_after, is_made, labels_after, made_again, made_twice, makes_label, makes_name_in, names_after, twice_from, with_word}
 use Rattle.lg_explain.specs.TwiceMade.{forms_at, MakesLabel, MakesName, BeginsFunction, MakesAgain, IsFirstAgain, FirstIsMadeTwice, IsToldTwice, FirstIsTold}
 use Rattle.lg_explain.specs.Words.{blamed_as, blamed_by, word_told}
 
@@ -99,7 +99,7 @@ module _ (text : List ℕ) where
     bytes = text_of text t
 
     abbrev next : List Form
-    next = forms_behind forms t.kind (text_of text t)
+    next = forms_after forms t.kind (text_of text t)
 
     label_on : (i : ℕ) (word : List ℕ) → MakesLabel text next tokens i word → MakesLabel text forms (t ∷ tokens) (suc i) word
     label_on i word m = record { token = m.token; here = m.here; makes = m.makes; is = m.is }
@@ -142,7 +142,7 @@ module _ (text : List ℕ) where
     -- ---- labels
     module _ (labels : List (List ℕ)) where
       abbrev more_labels : List (List ℕ)
-      more_labels = labels_behind forms t.kind bytes labels
+      more_labels = labels_after forms t.kind bytes labels
 
       label_kept : (word : List ℕ) → is_made labels word ≡ true → is_made more_labels word ≡ true
       label_kept word e = by (makes_label forms t.kind)
@@ -182,7 +182,7 @@ module _ (text : List ℕ) where
     -- ---- names
     module _ (names : List (List ℕ)) where
       abbrev more_names : List (List ℕ)
-      more_names = names_behind forms t.kind bytes names
+      more_names = names_after forms t.kind bytes names
 
       abbrev named : Bool → Bool → List (List ℕ)
       named begins makes = if begins then [] else (if makes then with_word names (drop 1 bytes) else names)
@@ -248,7 +248,7 @@ module _ (text : List ℕ) where
       here_again = again forms t.kind bytes labels names
 
       abbrev pub later : ℕ → List ℕ → Type 0
-      later i word = Again (labels_behind forms t.kind bytes labels) (names_behind forms t.kind bytes names) next tokens i word
+      later i word = Again (labels_after forms t.kind bytes labels) (names_after forms t.kind bytes names) next tokens i word
 
       pub again_off : (i : ℕ) (word : List ℕ) → Again labels names forms (t ∷ tokens) (suc i) word → later i word
       again_off i word (inl (m, had)) = inl (label_off i word m, had_label_off labels i word had)
@@ -305,12 +305,12 @@ module _ (text : List ℕ) where
   twice_first [] labels names forms word e = cc
   twice_first (t ∷ tokens) labels names forms word e =
       by (again forms t.kind (text_of text t) labels names) refl e
-      (twice_first tokens (labels_behind forms t.kind (text_of text t) labels) (names_behind forms t.kind (text_of text t) names) (forms_behind forms t.kind (text_of text t)) word)
+      (twice_first tokens (labels_after forms t.kind (text_of text t) labels) (names_after forms t.kind (text_of text t) names) (forms_after forms t.kind (text_of text t)) word)
     where
       rest : Option (List ℕ)
-      rest = twice_from text tokens (labels_behind forms t.kind (text_of text t) labels) (names_behind forms t.kind (text_of text t) names) (forms_behind forms t.kind (text_of text t))
+      rest = twice_from text tokens (labels_after forms t.kind (text_of text t) labels) (names_after forms t.kind (text_of text t) names) (forms_after forms t.kind (text_of text t))
 
-      by : (o : Option (List ℕ)) → again forms t.kind (text_of text t) labels names ≡ o → option_or o rest ≡ Some word → (rest ≡ Some word → First (labels_behind forms t.kind (text_of text t) labels) (names_behind forms t.kind (text_of text t) names) (forms_behind forms t.kind (text_of text t)) tokens word) → First labels names forms (t ∷ tokens) word
+      by : (o : Option (List ℕ)) → again forms t.kind (text_of text t) labels names ≡ o → option_or o rest ≡ Some word → (rest ≡ Some word → First (labels_after forms t.kind (text_of text t) labels) (names_after forms t.kind (text_of text t) names) (forms_after forms t.kind (text_of text t)) tokens word) → First labels names forms (t ∷ tokens) word
       by (Some w) f g call = record {
         at = 0;
         again = told_now t tokens forms labels names word (f ∙ g);
@@ -333,10 +333,10 @@ module _ (text : List ℕ) where
   none_twice [] labels names forms e j other (inr (m, had)) = let no = m.here in cc
   none_twice (t ∷ tokens) labels names forms e j other a =
       by (again forms t.kind (text_of text t) labels names) refl e j a
-      (λ f i b. none_twice tokens (labels_behind forms t.kind (text_of text t) labels) (names_behind forms t.kind (text_of text t) names) (forms_behind forms t.kind (text_of text t)) f i other b)
+      (λ f i b. none_twice tokens (labels_after forms t.kind (text_of text t) labels) (names_after forms t.kind (text_of text t) names) (forms_after forms t.kind (text_of text t)) f i other b)
     where
       rest : Option (List ℕ)
-      rest = twice_from text tokens (labels_behind forms t.kind (text_of text t) labels) (names_behind forms t.kind (text_of text t) names) (forms_behind forms t.kind (text_of text t))
+      rest = twice_from text tokens (labels_after forms t.kind (text_of text t) labels) (names_after forms t.kind (text_of text t) names) (forms_after forms t.kind (text_of text t))
 
       by : (o : Option (List ℕ)) → again forms t.kind (text_of text t) labels names ≡ o → option_or o rest ≡ None → (j : ℕ) → Again labels names forms (t ∷ tokens) j other
           → (rest ≡ None → (i : ℕ) → later t tokens forms labels names i other → ⊥) → ⊥

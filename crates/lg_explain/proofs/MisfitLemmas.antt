@@ -8,8 +8,8 @@ use Rattle.lg_lex.specs.declared.token.Token.{Token}
 use Rattle.lg_op.specs.declared.form.Form.{Form}
 use Rattle.lg_tst.specs.Streams.{text_of}
 use Rattle.lg_explain.specs.Lines.{shown}
-use Rattle.lg_explain.specs.Misfits.{misfit, misfit_from, missing, word_behind}
-use Rattle.lg_explain.specs.Unknown.{forms_behind, part_behind, rest_behind}
+use Rattle.lg_explain.specs.Misfits.{misfit, misfit_from, missing, word_after}
+use Rattle.lg_explain.specs.Unknown.{forms_after, part_after, rest_after}
 use Rattle.lg_explain.specs.declared.place.Part.{Part}
 use Rattle.lg_explain.specs.declared.place.Rest.{Rest}
 
@@ -18,8 +18,8 @@ abbrev pub here_of : List ℕ → Token → List Form → Rest → (word before 
 here_of text t left r word before = misfit left r word before t.kind (text_of text t) t.value
 
 abbrev pub later : List ℕ → Token → List Token → Part → List Form → Rest → (word : List ℕ) → Option (List ℕ)
-later text t more p left r word = misfit_from text more (part_behind p left r t.kind (text_of text t)) (forms_behind p left r t.kind (text_of text t))
-    (rest_behind p left r t.kind (text_of text t)) (word_behind left r word t.kind (text_of text t)) (text_of text t)
+later text t more p left r word = misfit_from text more (part_after p left r t.kind (text_of text t)) (forms_after p left r t.kind (text_of text t))
+    (rest_after p left r t.kind (text_of text t)) (word_after left r word t.kind (text_of text t)) (text_of text t)
 
 -- what is left of a text: its tokens in order, and the first of them that does not fit is that of the whole text
 pub record IsLeft (text : List ℕ) (all : Option (List ℕ)) (tokens : Tokens) (p : Part) (left : List Form) (r : Rest) (word before : List ℕ) : Type 0 where
@@ -76,13 +76,13 @@ found_here text all token behind p left r word before said h is = by (here_of te
     by None is same = cc
     by (Some w) is same = is ∙ ap (option_map shown) same
 
-pub left_behind : (text : List ℕ) (all : Option (List ℕ)) (token : Token) (behind : Tokens) (p : Part) (left : List Form) (r : Rest) (word before : List ℕ)
+pub left_after : (text : List ℕ) (all : Option (List ℕ)) (token : Token) (behind : Tokens) (p : Part) (left : List Form) (r : Rest) (word before : List ℕ)
     (p' : Part) (left' : List Form) (r' : Rest) (word' before' : List ℕ)
     → IsNext text all token behind p left r word before → None ≡ option_map shown (here_of text token left r word before)
-    → p' ≡ part_behind p left r token.kind (text_of text token) → left' ≡ forms_behind p left r token.kind (text_of text token)
-    → r' ≡ rest_behind p left r token.kind (text_of text token) → word' ≡ word_behind left r word token.kind (text_of text token) → before' ≡ text_of text token
+    → p' ≡ part_after p left r token.kind (text_of text token) → left' ≡ forms_after p left r token.kind (text_of text token)
+    → r' ≡ rest_after p left r token.kind (text_of text token) → word' ≡ word_after left r word token.kind (text_of text token) → before' ≡ text_of text token
     → IsLeft text all behind p' left' r' word' before'
-left_behind text all token behind p left r word before p' left' r' word' before' h is ep ef er ew eb =
+left_after text all token behind p left r word before p' left' r' word' before' h is ep ef er ew eb =
     record { place = token.end; order = h.order; same = (λ i. misfit_from text behind.0 (ep i) (ef i) (er i) (ew i) (eb i)) ∙ by (here_of text token left r word before) is h.same }
   where
     by : (o : Option (List ℕ)) → None ≡ option_map shown o → option_or o (later text token behind.0 p left r word) ≡ all → later text token behind.0 p left r word ≡ all

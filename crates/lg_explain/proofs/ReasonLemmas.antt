@@ -257,28 +257,28 @@ module _ (t : Text) (n : Node) (s : State) where
   -- one of the rows holds
   pub by_rows : (o : Op) (q : Reason) → why_of t n o s ≡ Some q → H o q
   by_rows o q e =
-      let behind_13 : List (Option Reason) = [] in
-      let from_13 : first (row_13 t n o s ∷ behind_13) ≡ Some q → H o q = or_rest (row_13 t n o s) behind_13 q (H o q) (λ f. thirteenth_row o q f) (λ f. no_row q (H o q) f) in
-      let behind_12 : List (Option Reason) = row_13 t n o s ∷ behind_13 in
-      let from_12 : first (row_12 t n o s ∷ behind_12) ≡ Some q → H o q = or_rest (row_12 t n o s) behind_12 q (H o q) (λ f. twelfth_row o q f) from_13 in
-      let behind_11 : List (Option Reason) = row_12 t n o s ∷ behind_12 in
-      let from_11 : first (row_11 n o s ∷ behind_11) ≡ Some q → H o q = or_rest (row_11 n o s) behind_11 q (H o q) (λ f. eleventh_row o q f) from_12 in
-      let behind_10 : List (Option Reason) = row_11 n o s ∷ behind_11 in
-      let from_10 : first (row_10 o s ∷ behind_10) ≡ Some q → H o q = or_rest (row_10 o s) behind_10 q (H o q) (λ f. tenth_row o q f) from_11 in
-      let behind_9 : List (Option Reason) = row_10 o s ∷ behind_10 in
-      let from_9 : first (row_9 t n o s ∷ behind_9) ≡ Some q → H o q = or_rest (row_9 t n o s) behind_9 q (H o q) (λ f. ninth_row o q f) from_10 in
-      let behind_8 : List (Option Reason) = row_9 t n o s ∷ behind_9 in
-      let from_8 : first (row_8 t n o s ∷ behind_8) ≡ Some q → H o q = or_rest (row_8 t n o s) behind_8 q (H o q) (λ f. eighth_row o q f) from_9 in
-      let behind_7 : List (Option Reason) = row_8 t n o s ∷ behind_8 in
-      let from_7 : first (row_7 t n o s ∷ behind_7) ≡ Some q → H o q = or_rest (row_7 t n o s) behind_7 q (H o q) (λ f. seventh_row o q f) from_8 in
-      let behind_6 : List (Option Reason) = row_7 t n o s ∷ behind_7 in
-      let from_6 : first (row_6 t n o s ∷ behind_6) ≡ Some q → H o q = or_rest (row_6 t n o s) behind_6 q (H o q) (λ f. sixth_row o q f) from_7 in
-      let behind_4 : List (Option Reason) = row_6 t n o s ∷ behind_6 in
-      let from_4 : first (row_4 t n o s ∷ behind_4) ≡ Some q → H o q = or_rest (row_4 t n o s) behind_4 q (H o q) (λ f. fourth_row o q f) from_6 in
-      let behind_2 : List (Option Reason) = row_4 t n o s ∷ behind_4 in
-      let from_2 : first (row_2 o s ∷ behind_2) ≡ Some q → H o q = or_rest (row_2 o s) behind_2 q (H o q) (λ f. second_row o q f) from_4 in
-      let behind_1 : List (Option Reason) = row_2 o s ∷ behind_2 in
-      let from_1 : first (row_1 t n o s ∷ behind_1) ≡ Some q → H o q = or_rest (row_1 t n o s) behind_1 q (H o q) (λ f. first_row o q f) from_2 in
+      let after_13 : List (Option Reason) = [] in
+      let from_13 : first (row_13 t n o s ∷ after_13) ≡ Some q → H o q = or_rest (row_13 t n o s) after_13 q (H o q) (λ f. thirteenth_row o q f) (λ f. no_row q (H o q) f) in
+      let after_12 : List (Option Reason) = row_13 t n o s ∷ after_13 in
+      let from_12 : first (row_12 t n o s ∷ after_12) ≡ Some q → H o q = or_rest (row_12 t n o s) after_12 q (H o q) (λ f. twelfth_row o q f) from_13 in
+      let after_11 : List (Option Reason) = row_12 t n o s ∷ after_12 in
+      let from_11 : first (row_11 n o s ∷ after_11) ≡ Some q → H o q = or_rest (row_11 n o s) after_11 q (H o q) (λ f. eleventh_row o q f) from_12 in
+      let after_10 : List (Option Reason) = row_11 n o s ∷ after_11 in
+      let from_10 : first (row_10 o s ∷ after_10) ≡ Some q → H o q = or_rest (row_10 o s) after_10 q (H o q) (λ f. tenth_row o q f) from_11 in
+      let after_9 : List (Option Reason) = row_10 o s ∷ after_10 in
+      let from_9 : first (row_9 t n o s ∷ after_9) ≡ Some q → H o q = or_rest (row_9 t n o s) after_9 q (H o q) (λ f. ninth_row o q f) from_10 in
+      let after_8 : List (Option Reason) = row_9 t n o s ∷ after_9 in
+      let from_8 : first (row_8 t n o s ∷ after_8) ≡ Some q → H o q = or_rest (row_8 t n o s) after_8 q (H o q) (λ f. eighth_row o q f) from_9 in
+      let after_7 : List (Option Reason) = row_8 t n o s ∷ after_8 in
+      let from_7 : first (row_7 t n o s ∷ after_7) ≡ Some q → H o q = or_rest (row_7 t n o s) after_7 q (H o q) (λ f. seventh_row o q f) from_8 in
+      let after_6 : List (Option Reason) = row_7 t n o s ∷ after_7 in
+      let from_6 : first (row_6 t n o s ∷ after_6) ≡ Some q → H o q = or_rest (row_6 t n o s) after_6 q (H o q) (λ f. sixth_row o q f) from_7 in
+      let after_4 : List (Option Reason) = row_6 t n o s ∷ after_6 in
+      let from_4 : first (row_4 t n o s ∷ after_4) ≡ Some q → H o q = or_rest (row_4 t n o s) after_4 q (H o q) (λ f. fourth_row o q f) from_6 in
+      let after_2 : List (Option Reason) = row_4 t n o s ∷ after_4 in
+      let from_2 : first (row_2 o s ∷ after_2) ≡ Some q → H o q = or_rest (row_2 o s) after_2 q (H o q) (λ f. second_row o q f) from_4 in
+      let after_1 : List (Option Reason) = row_2 o s ∷ after_2 in
+      let from_1 : first (row_1 t n o s ∷ after_1) ≡ Some q → H o q = or_rest (row_1 t n o s) after_1 q (H o q) (λ f. first_row o q f) from_2 in
       from_1 e
 
 pub hold : ReasonsHold

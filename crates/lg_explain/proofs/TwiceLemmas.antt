@@ -12,7 +12,7 @@ use Rattle.lg_op.proofs.NameLemmas.{found, found_named, again as again_named, lo
 use Rattle.lg_tst.specs.Streams.{text_of}
 use Rattle.lg_tst.specs.Words.{op_of}
 use Rattle.lg_explain.specs.Lines.{shown}
-use Rattle.lg_explain.specs.Twice.{again, forms_behind, is_made, labels_behind, names_behind, twice_from, with_word}
+use Rattle.lg_explain.specs.Twice.{again, forms_after, is_made, labels_after, names_after, twice_from, with_word}
 
 -- a word that an operation's name is leads to that operation
 named_found : (op : Op) (word : List ℕ) → IsName op word → found word ≡ Some op
@@ -39,7 +39,7 @@ pub record IsNext (text : List ℕ) (all : Option (List ℕ)) (token : Token) (l
   pub end : token.end ≤ length text
   pub order : AreInOrder text token.end left.0
   pub same : option_or (again forms token.kind (text_of text token) labels names)
-      (twice_from text left.0 (labels_behind forms token.kind (text_of text token) labels) (names_behind forms token.kind (text_of text token) names) (forms_behind forms token.kind (text_of text token))) ≡ all
+      (twice_from text left.0 (labels_after forms token.kind (text_of text token) labels) (names_after forms token.kind (text_of text token) names) (forms_after forms token.kind (text_of text token))) ≡ all
 
 next_at : (text : List ℕ) (all : Option (List ℕ)) (place : ℕ) (tokens : List Token) (fault : Option Refusal) (labels names : List (List ℕ)) (forms : List Form) (r : Result (Option Token) Refusal) (left : Tokens) (token : Token)
     → AreInOrder text place tokens → twice_from text tokens labels names forms ≡ all → Gives (tokens, fault) r left → r ≡ Ok (Some token)
@@ -78,21 +78,21 @@ pub found_here : (text : List ℕ) (all : Option (List ℕ)) (token : Token) (le
 found_here text all token left labels names forms word h is = by (again forms token.kind (text_of text token) labels names) is h.same
   where
     rest : Option (List ℕ)
-    rest = twice_from text left.0 (labels_behind forms token.kind (text_of text token) labels) (names_behind forms token.kind (text_of text token) names) (forms_behind forms token.kind (text_of text token))
+    rest = twice_from text left.0 (labels_after forms token.kind (text_of text token) labels) (names_after forms token.kind (text_of text token) names) (forms_after forms token.kind (text_of text token))
 
     by : (o : Option (List ℕ)) → Some word ≡ option_map shown o → option_or o rest ≡ all → Some word ≡ option_map shown all
     by None is same = cc
     by (Some w) is same = is ∙ ap (option_map shown) same
 
-pub left_behind : (text : List ℕ) (all : Option (List ℕ)) (token : Token) (left : Tokens) (labels names : List (List ℕ)) (forms : List Form) (labels' names' : List (List ℕ)) (forms' : List Form)
+pub left_after : (text : List ℕ) (all : Option (List ℕ)) (token : Token) (left : Tokens) (labels names : List (List ℕ)) (forms : List Form) (labels' names' : List (List ℕ)) (forms' : List Form)
     → IsNext text all token left labels names forms → None ≡ option_map shown (again forms token.kind (text_of text token) labels names)
-    → labels' ≡ labels_behind forms token.kind (text_of text token) labels → names' ≡ names_behind forms token.kind (text_of text token) names
-    → forms' ≡ forms_behind forms token.kind (text_of text token) → IsLeft text all left labels' names' forms'
-left_behind text all token left labels names forms labels' names' forms' h is el en ef =
+    → labels' ≡ labels_after forms token.kind (text_of text token) labels → names' ≡ names_after forms token.kind (text_of text token) names
+    → forms' ≡ forms_after forms token.kind (text_of text token) → IsLeft text all left labels' names' forms'
+left_after text all token left labels names forms labels' names' forms' h is el en ef =
     record { place = token.end; order = h.order; same = (λ i. twice_from text left.0 (el i) (en i) (ef i)) ∙ by (again forms token.kind (text_of text token) labels names) is h.same }
   where
     rest : Option (List ℕ)
-    rest = twice_from text left.0 (labels_behind forms token.kind (text_of text token) labels) (names_behind forms token.kind (text_of text token) names) (forms_behind forms token.kind (text_of text token))
+    rest = twice_from text left.0 (labels_after forms token.kind (text_of text token) labels) (names_after forms token.kind (text_of text token) names) (forms_after forms token.kind (text_of text token))
 
     by : (o : Option (List ℕ)) → None ≡ option_map shown o → option_or o rest ≡ all → rest ≡ all
     by None is same = same

@@ -8,13 +8,13 @@ use Rattle.lg_lex.specs.declared.token.Token.{Token}
 use Rattle.lg_op.specs.declared.form.Form.{Form}
 use Rattle.lg_tst.specs.Streams.{text_of}
 use Rattle.lg_explain.specs.Lines.{shown}
-use Rattle.lg_explain.specs.Unknown.{forms_behind, part_behind, rest_behind, unknown, unknown_from}
+use Rattle.lg_explain.specs.Unknown.{forms_after, part_after, rest_after, unknown, unknown_from}
 use Rattle.lg_explain.specs.declared.place.Part.{Part}
 use Rattle.lg_explain.specs.declared.place.Rest.{Rest}
 
 -- what comes after a token
 abbrev pub later : List ℕ → Token → List Token → Part → List Form → Rest → Option (List ℕ)
-later text t more p forms r = unknown_from text more (part_behind p forms r t.kind (text_of text t)) (forms_behind p forms r t.kind (text_of text t)) (rest_behind p forms r t.kind (text_of text t))
+later text t more p forms r = unknown_from text more (part_after p forms r t.kind (text_of text t)) (forms_after p forms r t.kind (text_of text t)) (rest_after p forms r t.kind (text_of text t))
 
 -- what is left of a text: its tokens in order, and the first of them that begins no statement is that of the whole text
 pub record IsLeft (text : List ℕ) (all : Option (List ℕ)) (left : Tokens) (p : Part) (forms : List Form) (r : Rest) : Type 0 where
@@ -69,11 +69,11 @@ found_here text all token left p forms r word h is = by (unknown p forms r token
     by None is same = cc
     by (Some w) is same = is ∙ ap (option_map shown) same
 
-pub left_behind : (text : List ℕ) (all : Option (List ℕ)) (token : Token) (left : Tokens) (p : Part) (forms : List Form) (r : Rest) (p' : Part) (forms' : List Form) (r' : Rest)
+pub left_after : (text : List ℕ) (all : Option (List ℕ)) (token : Token) (left : Tokens) (p : Part) (forms : List Form) (r : Rest) (p' : Part) (forms' : List Form) (r' : Rest)
     → IsNext text all token left p forms r → None ≡ option_map shown (unknown p forms r token.kind (text_of text token))
-    → p' ≡ part_behind p forms r token.kind (text_of text token) → forms' ≡ forms_behind p forms r token.kind (text_of text token)
-    → r' ≡ rest_behind p forms r token.kind (text_of text token) → IsLeft text all left p' forms' r'
-left_behind text all token left p forms r p' forms' r' h is ep ef er =
+    → p' ≡ part_after p forms r token.kind (text_of text token) → forms' ≡ forms_after p forms r token.kind (text_of text token)
+    → r' ≡ rest_after p forms r token.kind (text_of text token) → IsLeft text all left p' forms' r'
+left_after text all token left p forms r p' forms' r' h is ep ef er =
     record { place = token.end; order = h.order; same = (λ i. unknown_from text left.0 (ep i) (ef i) (er i)) ∙ by (unknown p forms r token.kind (text_of text token)) is h.same }
   where
     by : (o : Option (List ℕ)) → None ≡ option_map shown o → option_or o (later text token left.0 p forms r) ≡ all → later text token left.0 p forms r ≡ all

@@ -24,26 +24,26 @@ abbrev pub mark_or : ℕ → Gap
 mark_or b = if b == 35 then Hash else slash_or b
 
 -- what a byte leads to
-abbrev pub gap_behind : Gap → ℕ → Gap
-gap_behind Fresh b = if is_space b then fresh_space b else mark_or b
-gap_behind Blank b = if is_space b then blank_space b else slash_or b
-gap_behind Slash b = if b == 47 then Line else (if b == 42 then Block else Found 47)
-gap_behind Line b = if b == 10 then Fresh else Line
-gap_behind Block b = if b == 42 then Star else Block
-gap_behind Star b = if b == 47 then Blank else (if b == 42 then Star else Block)
-gap_behind Hash b = if b == 32 then Hash else (if is_ascii_digit b then Line else Found 35)
-gap_behind (Found byte) b = Found byte
+abbrev pub gap_after : Gap → ℕ → Gap
+gap_after Fresh b = if is_space b then fresh_space b else mark_or b
+gap_after Blank b = if is_space b then blank_space b else slash_or b
+gap_after Slash b = if b == 47 then Line else (if b == 42 then Block else Found 47)
+gap_after Line b = if b == 10 then Fresh else Line
+gap_after Block b = if b == 42 then Star else Block
+gap_after Star b = if b == 47 then Blank else (if b == 42 then Star else Block)
+gap_after Hash b = if b == 32 then Hash else (if is_ascii_digit b then Line else Found 35)
+gap_after (Found byte) b = Found byte
 
 -- the place after the last token, from a place on
-abbrev pub end_behind : ℕ → List Token → ℕ
-end_behind place [] = place
-end_behind place (t ∷ more) = end_behind t.end more
+abbrev pub end_after : ℕ → List Token → ℕ
+end_after place [] = place
+end_after place (t ∷ more) = end_after t.end more
 
 abbrev pub gap_from : ℕ → Gap
 gap_from place = if place == 0 then Fresh else Blank
 
 abbrev pub gap_at : List ℕ → ℕ → Gap
-gap_at text place = fold gap_behind (gap_from place) (drop place text)
+gap_at text place = fold gap_after (gap_from place) (drop place text)
 
 -- the byte: of a comment that is not ended its mark
 abbrev pub byte_of : Gap → Option ℕ
@@ -81,4 +81,4 @@ byte_words b = row (codes "'" ∷ (b ∷ []) ∷ codes "' " ∷ cause_of b ∷ [
 
 -- of a whole text
 abbrev pub bad_byte : List ℕ → Option (List ℕ)
-bad_byte text = option_map byte_words (byte_of (gap_at text (end_behind 0 (tokens_of text).0)))
+bad_byte text = option_map byte_words (byte_of (gap_at text (end_after 0 (tokens_of text).0)))

@@ -7,11 +7,11 @@ use Rattle.lg_op.specs.declared.op.PlainOp.TheVariants as plain
 use Rattle.lg_node.specs.Checks.{breaks_preparation, is_ellipsis, is_out_of_turn, needs_preparation}
 
 -- whether an `ellipsis` came, of a call that is being prepared after an operation
-abbrev pub variadic_behind : Option Bool → Op → Option Bool
-variadic_behind current (Plain plain.Prepare) = Some false
-variadic_behind current (Control control.Finish last) = None
-variadic_behind (Some variadic) (Plain plain.Ellipsis) = Some true
-variadic_behind current op = current
+abbrev pub variadic_after : Option Bool → Op → Option Bool
+variadic_after current (Plain plain.Prepare) = Some false
+variadic_after current (Control control.Finish last) = None
+variadic_after (Some variadic) (Plain plain.Ellipsis) = Some true
+variadic_after current op = current
 
 -- an operation is out of place
 abbrev pub is_bad : Option Bool → Bool → Bool → Op → Bool

@@ -10,24 +10,24 @@ abbrev pub before_feed : List ℕ → Option ℕ → List ℕ
 before_feed text None = text
 before_feed text (Some at) = take at text
 
-abbrev pub behind_feed : List ℕ → Option ℕ → List ℕ
-behind_feed text None = []
-behind_feed text (Some at) = drop (at + 1) text
+abbrev pub after_feed : List ℕ → Option ℕ → List ℕ
+after_feed text None = []
+after_feed text (Some at) = drop (at + 1) text
 
 abbrev pub first_line : List ℕ → List ℕ
 first_line text = before_feed text (first_feed text)
 
-abbrev pub behind_line : List ℕ → List ℕ
-behind_line text = behind_feed text (first_feed text)
+abbrev pub after_line : List ℕ → List ℕ
+after_line text = after_feed text (first_feed text)
 
 -- what is after the first n line feeds
-abbrev pub behind_lines : ℕ → List ℕ → List ℕ
-behind_lines zero text = text
-behind_lines (suc n) text = behind_line (behind_lines n text)
+abbrev pub after_lines : ℕ → List ℕ → List ℕ
+after_lines zero text = text
+after_lines (suc n) text = after_line (after_lines n text)
 
 -- the line of a number, counted from 1, without its line feed; no bytes, where a text has fewer
 abbrev pub line_in : List ℕ → ℕ → List ℕ
-line_in text line = first_line (behind_lines (line - 1) text)
+line_in text line = first_line (after_lines (line - 1) text)
 
 -- the most bytes of a line that are shown
 abbrev pub most_shown : ℕ

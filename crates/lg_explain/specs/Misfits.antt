@@ -22,7 +22,7 @@ use Rattle.lg_tst.specs.Units.{is_data_alignment, most_data}
 use Rattle.lg_tst.specs.Words.{op_of}
 use Rattle.lg_explain.specs.Lines.{shown}
 use Rattle.lg_explain.specs.Twice.{forms_by}
-use Rattle.lg_explain.specs.Unknown.{belongs, forms_behind, part_behind, rest_behind}
+use Rattle.lg_explain.specs.Unknown.{belongs, forms_after, part_after, rest_after}
 use Rattle.lg_explain.specs.declared.place.Part.{Part}
 use Rattle.lg_explain.specs.declared.place.Part.TheVariants as part
 use Rattle.lg_explain.specs.declared.place.Rest.{Rest}
@@ -183,14 +183,14 @@ abbrev pub missing : List Form → Rest → (word : List ℕ) → Option (List �
 missing left r word = if lacks left r then Some (misfit_words left r word (codes "missing: the text ends here")) else None
 
 -- the word of the statement at hand, after a token
-abbrev pub word_behind : List Form → Rest → (word : List ℕ) → TokenKind → (text : List ℕ) → List ℕ
-word_behind left r word kind text = if belongs left r kind then word else text
+abbrev pub word_after : List Form → Rest → (word : List ℕ) → TokenKind → (text : List ℕ) → List ℕ
+word_after left r word kind text = if belongs left r kind then word else text
 
 unfoldable pub misfit_from : List ℕ → List Token → Part → List Form → Rest → (word before : List ℕ) → Option (List ℕ)
 misfit_from text [] p left r word before = missing left r word
 misfit_from text (t ∷ more) p left r word before = option_or (misfit left r word before t.kind (text_of text t) t.value)
-    (misfit_from text more (part_behind p left r t.kind (text_of text t)) (forms_behind p left r t.kind (text_of text t))
-    (rest_behind p left r t.kind (text_of text t)) (word_behind left r word t.kind (text_of text t)) (text_of text t))
+    (misfit_from text more (part_after p left r t.kind (text_of text t)) (forms_after p left r t.kind (text_of text t))
+    (rest_after p left r t.kind (text_of text t)) (word_after left r word t.kind (text_of text t)) (text_of text t))
 
 -- of a whole text
 abbrev pub first_misfit : List ℕ → Option (List ℕ)

@@ -55,9 +55,9 @@ forms_begun Word text = forms_of_word text
 forms_begun kind text = []
 
 -- what is left after a token
-abbrev pub forms_behind : List Form → TokenKind → List ℕ → List Form
-forms_behind [] kind text = forms_begun kind text
-forms_behind (form ∷ forms) kind text = forms
+abbrev pub forms_after : List Form → TokenKind → List ℕ → List Form
+forms_after [] kind text = forms_begun kind text
+forms_after (form ∷ forms) kind text = forms
 
 -- the names of a function end with the next `prolog`
 abbrev pub begins : Option Op → Bool
@@ -69,11 +69,11 @@ begins_function [] Word text = begins (op_of text)
 begins_function forms kind text = false
 
 -- the labels that are made after a token, which has this text, and the names
-abbrev pub labels_behind : List Form → TokenKind → (text : List ℕ) → List (List ℕ) → List (List ℕ)
-labels_behind forms kind text labels = if makes_label forms kind then with_word labels (without_last text) else labels
+abbrev pub labels_after : List Form → TokenKind → (text : List ℕ) → List (List ℕ) → List (List ℕ)
+labels_after forms kind text labels = if makes_label forms kind then with_word labels (without_last text) else labels
 
-abbrev pub names_behind : List Form → TokenKind → (text : List ℕ) → List (List ℕ) → List (List ℕ)
-names_behind forms kind text names =
+abbrev pub names_after : List Form → TokenKind → (text : List ℕ) → List (List ℕ) → List (List ℕ)
+names_after forms kind text names =
     if begins_function forms kind text then [] else (if makes_name_in forms kind then with_word names (drop 1 text) else names)
 
 -- the word that a token makes, where it was made before
@@ -89,8 +89,8 @@ again forms kind text labels names =
 unfoldable pub twice_from : List ℕ → List Token → (labels names : List (List ℕ)) → List Form → Option (List ℕ)
 twice_from text [] labels names forms = None
 twice_from text (t ∷ more) labels names forms = option_or (again forms t.kind (text_of text t) labels names)
-    (twice_from text more (labels_behind forms t.kind (text_of text t) labels) (names_behind forms t.kind (text_of text t) names)
-    (forms_behind forms t.kind (text_of text t)))
+    (twice_from text more (labels_after forms t.kind (text_of text t) labels) (names_after forms t.kind (text_of text t) names)
+    (forms_after forms t.kind (text_of text t)))
 
 -- of a whole text
 abbrev pub made_twice : List ℕ → Option (List ℕ)

@@ -9,14 +9,14 @@ use Rattle.lg_pre.specs.Expanded.{expanded}
 use Rattle.lg_tst.specs.Streams.{text_of, without_last}
 use Rattle.lg_tst.specs.Units.{unit_of}
 use Rattle.lg_explain.specs.Lines.{shown}
-use Rattle.lg_explain.specs.Twice.{begins_function, forms_behind, made_twice, makes_label, makes_name_in}
+use Rattle.lg_explain.specs.Twice.{begins_function, forms_after, made_twice, makes_label, makes_name_in}
 use Rattle.lg_explain.specs.Words.{word_told}
 
 -- the forms of the operands that are left before a token: none where it begins a statement
 abbrev pub forms_at : List ℕ → List Form → List Token → ℕ → List Form
 forms_at text forms [] i = forms
 forms_at text forms (t ∷ tokens) zero = forms
-forms_at text forms (t ∷ tokens) (suc i) = forms_at text (forms_behind forms t.kind (text_of text t)) tokens i
+forms_at text forms (t ∷ tokens) (suc i) = forms_at text (forms_after forms t.kind (text_of text t)) tokens i
 
 -- token i makes the label of this word: it is a label mark that begins a statement
 pub record MakesLabel (text : List ℕ) (forms : List Form) (tokens : List Token) (i : ℕ) (word : List ℕ) : Type 0 where

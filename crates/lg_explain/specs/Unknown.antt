@@ -81,12 +81,12 @@ begins_none p LabelMark text = false
 begins_none p kind text = true
 
 -- the part after a directive
-abbrev pub code_behind : Part → Part
-code_behind part.Data = part.Code
-code_behind p = p
+abbrev pub code_after : Part → Part
+code_after part.Data = part.Code
+code_after p = p
 
 abbrev pub part_by : Part → List ℕ → Part
-part_by p text = if bytes_eq text (codes ".data") then part.Data else (if bytes_eq text (codes ".code") then code_behind p else p)
+part_by p text = if bytes_eq text (codes ".data") then part.Data else (if bytes_eq text (codes ".code") then code_after p else p)
 
 abbrev pub part_begun : Part → TokenKind → List ℕ → Part
 part_begun p Directive text = part_by p text
@@ -122,18 +122,18 @@ rest_begun p Directive text = rest_of_directive p text
 rest_begun p kind text = rest.Nothing
 
 -- ---- what is after a token
-abbrev pub part_behind : Part → List Form → Rest → TokenKind → (text : List ℕ) → Part
-part_behind p forms r kind text = if belongs forms r kind then p else part_begun p kind text
+abbrev pub part_after : Part → List Form → Rest → TokenKind → (text : List ℕ) → Part
+part_after p forms r kind text = if belongs forms r kind then p else part_begun p kind text
 
-abbrev pub forms_behind : Part → List Form → Rest → TokenKind → (text : List ℕ) → List Form
-forms_behind p forms r kind text = if belongs forms r kind then drop 1 forms else forms_begun p kind text
+abbrev pub forms_after : Part → List Form → Rest → TokenKind → (text : List ℕ) → List Form
+forms_after p forms r kind text = if belongs forms r kind then drop 1 forms else forms_begun p kind text
 
 abbrev pub rest_on_in : List Form → Rest → TokenKind → Rest
 rest_on_in [] r kind = rest_on r kind
 rest_on_in (form ∷ forms) r kind = r
 
-abbrev pub rest_behind : Part → List Form → Rest → TokenKind → (text : List ℕ) → Rest
-rest_behind p forms r kind text = if belongs forms r kind then rest_on_in forms r kind else rest_begun p kind text
+abbrev pub rest_after : Part → List Form → Rest → TokenKind → (text : List ℕ) → Rest
+rest_after p forms r kind text = if belongs forms r kind then rest_on_in forms r kind else rest_begun p kind text
 
 -- ---- the first token that begins no statement, by the tokens that are left
 abbrev pub is_unknown : Part → List Form → Rest → TokenKind → (text : List ℕ) → Bool
@@ -153,8 +153,8 @@ unknown p forms r kind text = if is_unknown p forms r kind text then Some (unkno
 unfoldable pub unknown_from : List ℕ → List Token → Part → List Form → Rest → Option (List ℕ)
 unknown_from text [] p forms r = None
 unknown_from text (t ∷ more) p forms r = option_or (unknown p forms r t.kind (text_of text t))
-    (unknown_from text more (part_behind p forms r t.kind (text_of text t)) (forms_behind p forms r t.kind (text_of text t))
-    (rest_behind p forms r t.kind (text_of text t)))
+    (unknown_from text more (part_after p forms r t.kind (text_of text t)) (forms_after p forms r t.kind (text_of text t))
+    (rest_after p forms r t.kind (text_of text t)))
 
 -- of a whole text
 abbrev pub first_unknown : List ℕ → Option (List ℕ)

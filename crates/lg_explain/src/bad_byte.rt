@@ -2,7 +2,7 @@
 
 ghost use Rattle.std.specs.Prelude.{◌≡◌, ◌≤◌, drop, fold, length};
 ghost use Rattle.std.specs.Option.{option_map};
-ghost use Rattle.lg_explain.specs.BadBytes.{bad_byte, blank_space, byte_of, byte_words, cause_of, end_behind, fresh_space, gap_at, gap_behind, gap_from, mark_or, other_cause, slash_or};
+ghost use Rattle.lg_explain.specs.BadBytes.{bad_byte, blank_space, byte_of, byte_words, cause_of, end_after, fresh_space, gap_at, gap_after, gap_from, mark_or, other_cause, slash_or};
 ghost use Rattle.lg_explain.specs.Lines.{shown};
 ghost use Rattle.lg_lex.specs.Bytes.{is_space};
 ghost use Rattle.lg_lex.specs.Tokens.{tokens_of};
@@ -84,8 +84,8 @@ fn mark_or(byte: u8) -> Gap
 }
 
 // What a byte leads to.
-fn gap_behind(gap: Gap, byte: u8) -> Gap
-    ensures { result ≡ gap_behind gap byte }
+fn gap_after(gap: Gap, byte: u8) -> Gap
+    ensures { result ≡ gap_after gap byte }
 {
     match gap {
         Gap::Fresh if is_space(byte) => fresh_space(byte),
@@ -110,7 +110,7 @@ fn gap_behind(gap: Gap, byte: u8) -> Gap
 // Returns the place after the last token of a text.
 fn last_end(text: &[u8]) -> usize
     requires { length text.now ≤ 16777216 }
-    ensures { result ≡ end_behind 0 (tokens_of text.now).0 }
+    ensures { result ≡ end_after 0 (tokens_of text.now).0 }
 {
     let mut lexer = Lexer::new(text);
     let mut place = 0;
@@ -133,7 +133,7 @@ fn gap_at(text: &[u8], place: usize) -> Gap
 {
     let mut gap = gap_from(place);
     for byte in behind(text, place) {
-        gap = gap_behind(gap, *byte);
+        gap = gap_after(gap, *byte);
     }
     gap
 }

@@ -3,7 +3,7 @@
 ghost use Rattle.std.specs.Prelude.{◌≡◌, ◌<◌, length, is_some};
 ghost use Rattle.std.specs.Option.{option_flatten};
 ghost use Rattle.lg_explain.specs.Blames.{bad_call_at, first_in, label_at};
-ghost use Rattle.lg_explain.specs.Calls.{is_bad, variadic_behind, varies_by};
+ghost use Rattle.lg_explain.specs.Calls.{is_bad, variadic_after, varies_by};
 ghost use Rattle.lg_node.specs.Labels.{is_labelled};
 
 use lg_node::refusals::{breaks_preparation, is_ellipsis, is_out_of_turn, needs_preparation};
@@ -27,8 +27,8 @@ fn is_bad(call: Option<bool>, varies: bool, labelled: bool, op: Op) -> bool
 }
 
 // What is known of it after an operation.
-fn variadic_behind(call: Option<bool>, op: Op) -> Option<bool>
-    ensures { result ≡ variadic_behind call op }
+fn variadic_after(call: Option<bool>, op: Op) -> Option<bool>
+    ensures { result ≡ variadic_after call op }
 {
     match (call, op) {
         (_, Op::Plain(PlainOp::Prepare)) => Some(false),
@@ -71,7 +71,7 @@ pub fn first_between(nodes: &NodeList) -> Option<Label>
             return if call.is_some() { label } else { None };
         }
         varies = varies_by(varies, call, op);
-        call = variadic_behind(call, op);
+        call = variadic_after(call, op);
     }
     None
 }

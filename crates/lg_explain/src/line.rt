@@ -1,7 +1,7 @@
 // A line of a text, and how it is shown.
 
 ghost use Rattle.std.specs.Prelude.{◌≡◌, ◌<◌, ◌≤◌, [], ◌∷◌, ◌++◌, length, map, nat_lt, take, IfSome};
-ghost use Rattle.lg_explain.specs.Lines.{behind_line, behind_lines, first_feed, first_line, is_hidden, line_in, most_shown, shown, shown_byte};
+ghost use Rattle.lg_explain.specs.Lines.{after_line, after_lines, first_feed, first_line, is_hidden, line_in, most_shown, shown, shown_byte};
 ghost use Rattle.lg_io.specs.Wrote.{joined};
 
 use std::marker::Model;
@@ -28,8 +28,8 @@ fn first_line(text: &[u8]) -> &[u8]
 }
 
 // What is after it.
-fn behind_line(text: &[u8]) -> &[u8]
-    ensures { result.now ≡ behind_line text.now }
+fn after_line(text: &[u8]) -> &[u8]
+    ensures { result.now ≡ after_line text.now }
 {
     match first_feed(text) {
         Some(at) => &text[at + 1..],
@@ -38,12 +38,12 @@ fn behind_line(text: &[u8]) -> &[u8]
 }
 
 // What is after the first n line feeds.
-fn behind_lines(text: &[u8], count: u32) -> &[u8]
-    ensures { result.now ≡ behind_lines count text.now }
+fn after_lines(text: &[u8], count: u32) -> &[u8]
+    ensures { result.now ≡ after_lines count text.now }
 {
     let mut rest = text;
     for _feed in 0..count {
-        rest = behind_line(rest);
+        rest = after_line(rest);
     }
     rest
 }
@@ -52,7 +52,7 @@ fn behind_lines(text: &[u8], count: u32) -> &[u8]
 pub fn line_in(text: &[u8], line: u32) -> &[u8]
     ensures { result.now ≡ line_in text.now line }
 {
-    first_line(behind_lines(text, line.saturating_sub(1)))
+    first_line(after_lines(text, line.saturating_sub(1)))
 }
 
 // Returns whether a byte is a control byte other than a tab.

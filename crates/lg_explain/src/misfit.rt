@@ -3,19 +3,17 @@
 ghost use Rattle.std.specs.Prelude.{◌≡◌, ◌≤◌, ◌-◌, length, take};
 ghost use Rattle.std.specs.Option.{option_map};
 ghost use Rattle.lg_explain.specs.Lines.{shown};
-ghost use Rattle.lg_explain.specs.Misfits.{all_forms, comma, first_misfit, first_words, form_words, is_bad, is_misfit, is_misfit_at, is_repeated, is_second, is_written, lacks, listed, misfit, misfit_words, missing, most_there, next_words, number_fits, number_words, ordinal, places, rest_takes, rest_words, second_words, takes_name, token_fits, token_words, wants_token, word_behind, words_by};
+ghost use Rattle.lg_explain.specs.Misfits.{all_forms, comma, first_misfit, first_words, form_words, is_bad, is_misfit, is_misfit_at, is_repeated, is_second, is_written, lacks, listed, misfit, misfit_words, missing, most_there, next_words, number_fits, number_words, ordinal, places, rest_takes, rest_words, second_words, takes_name, token_fits, token_words, wants_token, word_after, words_by};
 ghost use Rattle.lg_tst.specs.Units.{is_data_alignment};
 
 use crate::line::Shown;
-use crate::place::{
-    Part, Rest, belongs, forms_behind, forms_on, is_number, part_behind, rest_behind,
-};
+use crate::place::{Part, Rest, belongs, forms_after, forms_on, is_number, part_after, rest_after};
 use crate::twice::{forms_by, op_of, text_of};
 use lg_base::{HostName, RefusalKind};
 use lg_lex::bytes::ahead;
 use lg_lex::{Lexer, TokenKind};
 use lg_node::{Form, Label, Operand};
-use lg_operand::{behind_mark, host_operand, register_operand};
+use lg_operand::{after_mark, host_operand, register_operand};
 
 // ---- a token at the place of an operand
 
@@ -42,7 +40,7 @@ fn is_misfit(form: Form, kind: TokenKind, text: &[u8], value: u64) -> bool
 {
     match kind {
         TokenKind::Register => is_bad(register_operand(form, text)),
-        TokenKind::Host => is_bad(host_operand(form, HostName::by_name(behind_mark(text)))),
+        TokenKind::Host => is_bad(host_operand(form, HostName::by_name(after_mark(text)))),
         TokenKind::Name => !takes_name(form),
         TokenKind::Word => !form.admits(Operand::Label(Label(0))),
         TokenKind::Number | TokenKind::Character | TokenKind::Expression => {
@@ -377,14 +375,14 @@ fn missing(left: &[Form], rest: Rest, word: &[u8]) -> Option<Shown>
 }
 
 // Returns the first token of the statement at hand, after a token.
-fn word_behind<'a>(
+fn word_after<'a>(
     left: &[Form],
     rest: Rest,
     word: &'a [u8],
     kind: TokenKind,
     text: &'a [u8],
 ) -> &'a [u8]
-    ensures { result.now ≡ word_behind left.now rest word.entry.now kind text.entry.now }
+    ensures { result.now ≡ word_after left.now rest word.entry.now kind text.entry.now }
 {
     if belongs(left, rest, kind) {
         word
@@ -413,10 +411,10 @@ pub fn first_misfit(text: &[u8]) -> Option<Shown>
         let part_before = part;
         let forms = left;
         let rest_before = rest;
-        part = part_behind(part_before, forms, rest_before, token.kind, bytes);
-        left = forms_behind(part_before, forms, rest_before, token.kind, bytes);
-        rest = rest_behind(part_before, forms, rest_before, token.kind, bytes);
-        word = word_behind(forms, rest_before, word, token.kind, bytes);
+        part = part_after(part_before, forms, rest_before, token.kind, bytes);
+        left = forms_after(part_before, forms, rest_before, token.kind, bytes);
+        rest = rest_after(part_before, forms, rest_before, token.kind, bytes);
+        word = word_after(forms, rest_before, word, token.kind, bytes);
         before = bytes;
     }
     missing(left, rest, word)

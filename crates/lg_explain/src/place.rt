@@ -1,7 +1,7 @@
 // Where a reading stands: in which part, and what the statement at hand still takes.
 
 ghost use Rattle.std.specs.Prelude.{◌≡◌, drop};
-ghost use Rattle.lg_explain.specs.Unknown.{align_forms, begins_none, belongs, code_behind, forms_begun, forms_behind, forms_in, goes_on, is_code_word, is_data, is_directive_of, is_item, is_unknown, is_values, is_word_of, part_begun, part_behind, part_by, rest_begun, rest_behind, rest_of_directive, rest_of_item, rest_of_word, rest_on, rest_on_in, takes_data};
+ghost use Rattle.lg_explain.specs.Unknown.{align_forms, begins_none, belongs, code_after, forms_begun, forms_after, forms_in, goes_on, is_code_word, is_data, is_directive_of, is_item, is_unknown, is_values, is_word_of, part_begun, part_after, part_by, rest_begun, rest_after, rest_of_directive, rest_of_item, rest_of_word, rest_on, rest_on_in, takes_data};
 ghost use Rattle.lg_tst.specs.Statements.{is_number};
 
 use crate::twice::{forms_by, op_of};
@@ -156,8 +156,8 @@ fn begins_none(part: Part, kind: TokenKind, text: &[u8]) -> bool
 }
 
 // Returns the part after `.code`.
-fn code_behind(part: Part) -> Part
-    ensures { result ≡ code_behind part }
+fn code_after(part: Part) -> Part
+    ensures { result ≡ code_after part }
 {
     match part {
         Part::Data => Part::Code,
@@ -172,7 +172,7 @@ fn part_by(part: Part, text: &[u8]) -> Part
     if text == b".data".as_slice() {
         Part::Data
     } else if text == b".code".as_slice() {
-        code_behind(part)
+        code_after(part)
     } else {
         part
     }
@@ -295,8 +295,8 @@ fn rest_on_in(forms: &[Form], rest: Rest, kind: TokenKind) -> Rest
 }
 
 /// Returns the part after a token.
-pub fn part_behind(part: Part, forms: &[Form], rest: Rest, kind: TokenKind, text: &[u8]) -> Part
-    ensures { result ≡ part_behind part forms.now rest kind text.now }
+pub fn part_after(part: Part, forms: &[Form], rest: Rest, kind: TokenKind, text: &[u8]) -> Part
+    ensures { result ≡ part_after part forms.now rest kind text.now }
 {
     if belongs(forms, rest, kind) {
         part
@@ -306,14 +306,14 @@ pub fn part_behind(part: Part, forms: &[Form], rest: Rest, kind: TokenKind, text
 }
 
 /// Returns the forms of the operands that are left after a token.
-pub fn forms_behind(
+pub fn forms_after(
     part: Part,
     forms: &'static [Form],
     rest: Rest,
     kind: TokenKind,
     text: &[u8],
 ) -> &'static [Form]
-    ensures { result.now ≡ forms_behind part forms.now rest kind text.now }
+    ensures { result.now ≡ forms_after part forms.now rest kind text.now }
 {
     if belongs(forms, rest, kind) {
         forms_on(forms)
@@ -323,8 +323,8 @@ pub fn forms_behind(
 }
 
 /// Returns what the statement at hand takes after a token, where no operand is left.
-pub fn rest_behind(part: Part, forms: &[Form], rest: Rest, kind: TokenKind, text: &[u8]) -> Rest
-    ensures { result ≡ rest_behind part forms.now rest kind text.now }
+pub fn rest_after(part: Part, forms: &[Form], rest: Rest, kind: TokenKind, text: &[u8]) -> Rest
+    ensures { result ≡ rest_after part forms.now rest kind text.now }
 {
     if belongs(forms, rest, kind) {
         rest_on_in(forms, rest, kind)

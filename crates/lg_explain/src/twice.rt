@@ -3,7 +3,7 @@
 ghost use Rattle.std.specs.Prelude.{◌≡◌, ◌≤◌, ◌<◌, [], drop, length, IfOk, OnOk};
 ghost use Rattle.std.specs.Option.{option_map};
 ghost use Rattle.lg_explain.specs.Lines.{shown};
-ghost use Rattle.lg_explain.specs.Twice.{again, begins_function, forms_behind, forms_by, forms_of_word, labels_behind, made_again, made_twice, makes_label, makes_name, makes_name_in, names_behind};
+ghost use Rattle.lg_explain.specs.Twice.{again, begins_function, forms_after, forms_by, forms_of_word, labels_after, made_again, made_twice, makes_label, makes_name, makes_name_in, names_after};
 ghost use Rattle.lg_tst.specs.Streams.{text_of, without_last};
 ghost use Rattle.lg_tst.specs.Units.{written_forms};
 ghost use Rattle.lg_tst.specs.Words.{op_of};
@@ -57,8 +57,8 @@ fn forms_of_word(word: &[u8]) -> &'static [Form]
 }
 
 // Returns the forms of the operands that are left after a token.
-fn forms_behind(forms: &'static [Form], kind: TokenKind, text: &[u8]) -> &'static [Form]
-    ensures { result.now ≡ forms_behind forms.now kind text.now }
+fn forms_after(forms: &'static [Form], kind: TokenKind, text: &[u8]) -> &'static [Form]
+    ensures { result.now ≡ forms_after forms.now kind text.now }
 {
     match (forms, kind) {
         ([_, rest @ ..], _) => rest,
@@ -157,7 +157,7 @@ fn make_label(
     text: &[u8],
     labels: &mut Made,
 ) -> Result<(), OutOfMemory>
-    ensures { OnOk result (labels.new ≡ labels_behind forms.now kind text.now labels.old) }
+    ensures { OnOk result (labels.new ≡ labels_after forms.now kind text.now labels.old) }
 {
     if makes_label(forms, kind) {
         labels.add(without_last(text))
@@ -174,7 +174,7 @@ fn make_name(
     text: &[u8],
     names: &mut Made,
 ) -> Result<(), OutOfMemory>
-    ensures { OnOk result (names.new ≡ names_behind forms.now kind text.now names.old) }
+    ensures { OnOk result (names.new ≡ names_after forms.now kind text.now names.old) }
 {
     if begins_function(forms, kind, text) {
         *names = Made::new(alloc);
@@ -216,7 +216,7 @@ fn first_again(
         }
         make_label(forms, token.kind, bytes, labels)?;
         make_name(alloc, forms, token.kind, bytes, names)?;
-        forms = forms_behind(forms, token.kind, bytes);
+        forms = forms_after(forms, token.kind, bytes);
     }
     Ok(None)
 }

@@ -7,7 +7,7 @@ ghost use Rattle.lg_io.specs.Wrote.{row};
 ghost use Rattle.lg_explain.specs.Unknown.{first_unknown, part_words, unknown, unknown_words};
 
 use crate::line::Shown;
-use crate::place::{Part, Rest, forms_behind, is_unknown, part_behind, rest_behind};
+use crate::place::{Part, Rest, forms_after, is_unknown, part_after, rest_after};
 use crate::twice::text_of;
 use lg_lex::{Lexer, TokenKind};
 use lg_node::Form;
@@ -64,9 +64,9 @@ pub fn first_unknown(text: &[u8]) -> Option<Shown>
         }
         let before = part;
         let left = forms;
-        part = part_behind(before, left, rest, token.kind, bytes);
-        forms = forms_behind(before, left, rest, token.kind, bytes);
-        rest = rest_behind(before, left, rest, token.kind, bytes);
+        part = part_after(before, left, rest, token.kind, bytes);
+        forms = forms_after(before, left, rest, token.kind, bytes);
+        rest = rest_after(before, left, rest, token.kind, bytes);
     }
     None
 }

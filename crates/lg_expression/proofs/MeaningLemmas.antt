@@ -13,7 +13,7 @@ use Rattle.lg_base.proofs.SpaceLemmas.{loaded-stored, number_at-shift, stored-ou
 use Rattle.lg_cells.specs.Cells.{within}
 use Rattle.lg_cells.specs.Memories.{writable}
 use Rattle.lg_meaning.specs.Means.{run_at, run_step}
-use Rattle.lg_meaning.specs.Means.{behind as run_behind}
+use Rattle.lg_meaning.specs.Means.{behind as run_after}
 use Rattle.lg_meaning.specs.States.{Frame, State, in_any_locals, in_locals, is_open}
 use Rattle.lg_meaning.specs.Steps.{Outcome, Goes, node_step, on, on_with_carry, with_reg}
 use Rattle.lg_meaning.specs.Texts.{step, step_at, text}
@@ -36,7 +36,7 @@ use Rattle.lg_expression.specs.Units.{aside, fp, node, nodes_of, r0, step_nodes,
 use Rattle.lg_expression.specs.declared.step.Step.{Step}
 use Rattle.lg_expression.specs.declared.step.Step.TheVariants.{Number, Argument, Negate, Operation}
 use Rattle.lg_expression.specs.Meanings.{Comes, HasLocals, Holds, NodesWorkExpressionsOut, StandAt, Wait, place_address}
-use Rattle.lg_expression.specs.Values.{IsWordStep, behind_step, behind_steps}
+use Rattle.lg_expression.specs.Values.{IsWordStep, behind_step, after_steps}
 
 -- ---- words
 
@@ -207,7 +207,7 @@ wait_put s t (u ∷ rest) place v few m f h =
 module _ (l : LabelledNodes) (shape : TextShape) (addresses : List ℕ) (x : ℕ) where
   one_run : (s t : State) (n : Node) → slice_get l.nodes s.at ≡ Some n → node_step (text l shape addresses) n n.op s ≡ Goes t [] → iter (run_step (step l shape addresses)) 1 (run_at s []) ≡ run_at t []
   unfolding iter
-  one_run s t n here goes = ap (λ (o : Outcome). run_behind (run_at s []) o) (ap (λ o. step_at (text l shape addresses) o s) here ∙ goes)
+  one_run s t n here goes = ap (λ (o : Outcome). run_after (run_at s []) o) (ap (λ o. step_at (text l shape addresses) o s) here ∙ goes)
 
   one : (s t : State) (n : Node) (stack : List ℕ) → slice_get l.nodes s.at ≡ Some n → node_step (text l shape addresses) n n.op s ≡ Goes t [] → t.at ≡ s.at + 1 → Holds x stack t → Comes l shape addresses s 1 x stack
   one s t n stack here goes at holds = record {
@@ -301,23 +301,23 @@ module _ (l : LabelledNodes) (shape : TextShape) (addresses : List ℕ) (x : ℕ
       let found = some_list (λ v. Some (v ∷ rest)) (binary_value op a b) mid e in
       with_stack s 2 (found.0 ∷ rest) mid found.2 (operate_comes s op a b found.0 rest found.1 (omega arith) here h)
 
-long_behind : (x : ℕ) (st : Step) (before mid : List ℕ) → behind_step x st before ≡ Some mid → length mid ≡ behind (length before) st
-long_behind x (Number n) before mid e = let same = ap length (same_Some (n ∷ before) mid e) in omega (arith, same)
-long_behind x Argument before mid e = let same = ap length (same_Some (x ∷ before) mid e) in omega (arith, same)
-long_behind x Negate [] mid e = absurd (none-some mid e)
-long_behind x Negate (a ∷ rest) mid e = sym (ap length (same_Some (negated a ∷ rest) mid e))
-long_behind x (Operation op) [] mid e = absurd (none-some mid e)
-long_behind x (Operation op) (b ∷ []) mid e = absurd (none-some mid e)
-long_behind x (Operation op) (b ∷ a ∷ rest) mid e = by_value (binary_value op a b) e where
+long_after : (x : ℕ) (st : Step) (before mid : List ℕ) → behind_step x st before ≡ Some mid → length mid ≡ behind (length before) st
+long_after x (Number n) before mid e = let same = ap length (same_Some (n ∷ before) mid e) in omega (arith, same)
+long_after x Argument before mid e = let same = ap length (same_Some (x ∷ before) mid e) in omega (arith, same)
+long_after x Negate [] mid e = absurd (none-some mid e)
+long_after x Negate (a ∷ rest) mid e = sym (ap length (same_Some (negated a ∷ rest) mid e))
+long_after x (Operation op) [] mid e = absurd (none-some mid e)
+long_after x (Operation op) (b ∷ []) mid e = absurd (none-some mid e)
+long_after x (Operation op) (b ∷ a ∷ rest) mid e = by_value (binary_value op a b) e where
   by_value : (o : Option ℕ) → option_and_then (λ v. Some (v ∷ rest)) o ≡ Some mid → length mid ≡ suc (suc (length rest)) - 1
   by_value None e = absurd (none-some mid e)
   by_value (Some v) e = let same = ap length (same_Some (v ∷ rest) mid e) in omega (arith, same)
 
-most_behind : (st : Step) (values : ℕ) → finds values st ≡ true → values ≤ 32 → behind values st ≤ 32
-most_behind (Number n) values h few = let room = ltb-true values 32 h in omega arith
-most_behind Argument values h few = let room = ltb-true values 32 h in omega arith
-most_behind Negate values h few = few
-most_behind (Operation op) values h few = omega arith
+most_after : (st : Step) (values : ℕ) → finds values st ≡ true → values ≤ 32 → behind values st ≤ 32
+most_after (Number n) values h few = let room = ltb-true values 32 h in omega arith
+most_after Argument values h few = let room = ltb-true values 32 h in omega arith
+most_after Negate values h few = few
+most_after (Operation op) values h few = omega arith
 
 pub worked_out : NodesWorkExpressionsOut
 unfolding iter
@@ -326,14 +326,14 @@ worked_out l shape addresses s x [] before after here words whole few h e =
     record { to = s; run = refl; at = (let z : s.at ≡ s.at + 0 = omega arith in z); holds = subst P (same_Some before after e) h }
 worked_out l shape addresses s x (st ∷ steps) before after here words whole few h e =
     let values = length before in
-    let found = some_list (behind_steps x steps) (behind_step x st before) after e in
+    let found = some_list (after_steps x steps) (behind_step x st before) after e in
     let mid = found.0 in
     let both = and_parts (finds values st) (is_whole (behind values st) steps) whole in
     let apart = stand_apart l s.at (step_nodes values st) (nodes_of (behind values st) steps) here in
-    let long : behind values st ≡ length mid = sym (long_behind x st before mid found.1) in
+    let long : behind values st ≡ length mid = sym (long_after x st before mid found.1) in
     let rest_nodes : nodes_of (behind values st) steps ≡ nodes_of (length mid) steps = ap (λ k. nodes_of k steps) long in
     let W : ℕ → Type 0 = λ k. is_whole k steps ≡ true in
-    let most = most_behind st values both.0 few in
+    let most = most_after st values both.0 few in
     let S : ℕ → List Node → Type 0 = λ k nodes. StandAt l k nodes in
     let first = step_comes l shape addresses x s st before mid apart.0 words.0 both.0 few h found.1 in
     let rest : (t : State) → t.at ≡ s.at + length (step_nodes values st) → Holds x mid t → Comes l shape addresses t (length (nodes_of (length mid) steps)) x after =

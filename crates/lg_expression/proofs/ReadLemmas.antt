@@ -12,7 +12,7 @@ use Rattle.lg_expression.specs.declared.reading.Waiting.{Waiting}
 use Rattle.lg_expression.specs.declared.reading.Waiting.TheVariants as waits
 use Rattle.lg_expression.specs.declared.step.Step.{Step}
 use Rattle.lg_expression.specs.declared.step.Step.TheVariants.{Number, Argument, Negate, Operation}
-use Rattle.lg_expression.specs.Grammar.{Spells, number, argument, enclosed, negated, spaced_before, spaced_behind, applied, alone, Writes, one_digit, one_more, closeness, comparison, operand, opening, closing, minus, space, letter_x, operation_at, HasWideNumber, IsLarge, IsNone, SpellOnce}
+use Rattle.lg_expression.specs.Grammar.{Spells, number, argument, enclosed, negated, spaced_before, spaced_after, applied, alone, Writes, one_digit, one_more, closeness, comparison, operand, opening, closing, minus, space, letter_x, operation_at, HasWideNumber, IsLarge, IsNone, SpellOnce}
 use Rattle.lg_expression.specs.Reading.{Fails, State, argument_from, at_digits, closed_by, closed_from, digit_from, ended, given, kept, opened_from, operator_by, operator_from, read_on, sign_by, start, steps_read, taken, taken_behind, then_on, whole, whole_by, whole_from, whole_of}
 use Rattle.lg_expression.specs.Steps.{IsExpression}
 use Rattle.lg_expression.proofs.SpelledLemmas.{at, by_sign, fits, fits_operand, most_closeness, not_le, operation_given, spelled_read}
@@ -213,8 +213,8 @@ operand_has waiting steps text t s h d = record {
 }
 
 -- what waits is all that was read
-nothing_behind : (waiting : List Waiting) (steps : List Step) (text : List ℕ) → Wants waiting text steps → WantsOperand waiting steps text
-nothing_behind waiting steps text w = record { front = text; before = []; wants = w; keeps = nothing_keeps; is = sym (append-nil text) }
+nothing_after : (waiting : List Waiting) (steps : List Step) (text : List ℕ) → Wants waiting text steps → WantsOperand waiting steps text
+nothing_after waiting steps text w = record { front = text; before = []; wants = w; keeps = nothing_keeps; is = sym (append-nil text) }
 
 -- ---- a digit
 
@@ -281,7 +281,7 @@ sign_before Below byte front before steps text below keeps is = record { front =
 
 opened_after : (next : Next) (waiting : List Waiting) (steps : List Step) (text : List ℕ) → Stands next waiting steps text → After (opened_from next (at steps waiting next)) (text ++ opening ∷ [])
 opened_after Operand waiting steps text h =
-    nothing_behind (waits.Open ∷ waiting) steps (text ++ opening ∷ []) (sign_before (Wants waiting) opening h.front h.before steps text h.wants h.keeps h.is)
+    nothing_after (waits.Open ∷ waiting) steps (text ++ opening ∷ []) (sign_before (Wants waiting) opening h.front h.before steps text h.wants h.keeps h.is)
 opened_after (Digits n) waiting steps text h = tt
 opened_after Operator waiting steps text h = tt
 
@@ -328,7 +328,7 @@ space_after Operator waiting steps text e h = record {
   last = h.last ++ space ∷ [];
   last_steps = h.last_steps;
   wants = h.wants;
-  spelled = spaced_behind h.last h.last_steps h.spelled;
+  spelled = spaced_after h.last h.last_steps h.spelled;
   fit = h.fit;
   small = h.small;
   is = ap (λ (l : List ℕ). l ++ space ∷ []) h.is ∙ append_assoc h.front h.last (space ∷ []);
@@ -391,7 +391,7 @@ sign_after : (op : BinaryOp) (byte : ℕ) (waiting : List Waiting) (steps : List
 sign_after Sub byte waiting steps text sign h =
     let P : ℕ → Type 0 = λ b. WantsOperand (waits.Negate ∷ waiting) steps (text ++ b ∷ []) in
     subst P (sym (minus_sign byte sign))
-    (nothing_behind (waits.Negate ∷ waiting) steps (text ++ minus ∷ []) (sign_before (Wants waiting) minus h.front h.before steps text h.wants h.keeps h.is))
+    (nothing_after (waits.Negate ∷ waiting) steps (text ++ minus ∷ []) (sign_before (Wants waiting) minus h.front h.before steps text h.wants h.keeps h.is))
 sign_after op byte waiting steps text sign h = tt
 
 operator_after : (next : Next) (op : BinaryOp) (byte : ℕ) (waiting : List Waiting) (steps : List Step) (text : List ℕ) → operation_at byte ≡ Some op → HasEnded next → Stands next waiting steps text
@@ -400,7 +400,7 @@ operator_after Operand op byte waiting steps text sign e h = sign_after op byte 
 operator_after (Digits n) op byte waiting steps text sign e h = absurd e
 operator_after Operator op byte waiting steps text sign e h =
     let went = released_has operand (closeness op) waiting steps text (omega (arith, most_closeness op)) (most_closeness op) h in
-    nothing_behind (waits.Operation op ∷ kept (closeness op) waiting) (steps ++ given (closeness op) waiting) (text ++ byte ∷ [])
+    nothing_after (waits.Operation op ∷ kept (closeness op) waiting) (steps ++ given (closeness op) waiting) (text ++ byte ∷ [])
     (operation_wants op byte (kept (closeness op) waiting) (steps ++ given (closeness op) waiting) text sign went)
 
 found_after : (found : Option BinaryOp) (next : Next) (byte : ℕ) (waiting : List Waiting) (steps : List Step) (text : List ℕ) → operation_at byte ≡ found → HasEnded next → Stands next waiting steps text
@@ -413,8 +413,8 @@ found_after (Some op) next byte waiting steps text sign e h = operator_after nex
 byte_is : (r : Result State ReadError) (text : List ℕ) (byte k : ℕ) → (byte == k) ≡ true → After r (text ++ k ∷ []) → After r (text ++ byte ∷ [])
 byte_is r text byte k e h = let P : ℕ → Type 0 = λ b. After r (text ++ b ∷ []) in subst P (sym (eqb-true byte k e)) h
 
-behind_after : (next : Next) (byte : ℕ) (waiting : List Waiting) (steps : List Step) (text : List ℕ) → HasEnded next → Stands next waiting steps text → After (taken_behind byte (at steps waiting next)) (text ++ byte ∷ [])
-behind_after next byte waiting steps text e h =
+after_after : (next : Next) (byte : ℕ) (waiting : List Waiting) (steps : List Step) (text : List ℕ) → HasEnded next → Stands next waiting steps text → After (taken_behind byte (at steps waiting next)) (text ++ byte ∷ [])
+after_after next byte waiting steps text e h =
     let s = at steps waiting next in
     if_after (byte == space) (Ok s) _ (text ++ byte ∷ []) (λ holds. byte_is (Ok s) text byte space holds (space_after next waiting steps text e h))
     (λ fails. if_after (byte == closing) (closed_from next s) (operator_by (operation_at byte) s) (text ++ byte ∷ [])
@@ -437,7 +437,7 @@ taken_after next byte waiting steps text h =
     if_after (is_in_range 48 57 byte) (digit_from next (byte - 48) s) _ (text ++ byte ∷ []) (λ range. digit_byte next byte waiting steps text range h)
     (λ fails. if_after (byte == letter_x) (argument_from next s) _ (text ++ byte ∷ []) (λ holds. byte_is (argument_from next s) text byte letter_x holds (argument_after next waiting steps text h))
     (λ no_x. if_after (byte == opening) (opened_from next s) (taken_behind byte e) (text ++ byte ∷ []) (λ holds. byte_is (opened_from next s) text byte opening holds (opened_after next waiting steps text h))
-    (λ other. behind_after e.next byte e.waiting e.steps text (has_ended next steps waiting) (ended_is_read next waiting steps text h))))
+    (λ other. after_after e.next byte e.waiting e.steps text (has_ended next steps waiting) (ended_is_read next waiting steps text h))))
 
 -- ---- a text
 
@@ -502,7 +502,7 @@ whole_of_after (Err TooLarge) text h = h
 whole_of_after (Err OutOfMemory) text h = h
 
 steps_after : (text : List ℕ) → AfterWhole (steps_read text) text
-steps_after text = whole_of_after (read_on start text) text (read_after text start [] (nothing_behind [] [] [] (refl, refl)))
+steps_after text = whole_of_after (read_on start text) text (read_after text start [] (nothing_after [] [] [] (refl, refl)))
 
 -- the steps that are read in a text are spelled there
 pub read_spelled : (text : List ℕ) (steps : List Step) → steps_read text ≡ Ok steps → Spells comparison text steps

@@ -12,7 +12,7 @@ use Rattle.lg_expression.specs.declared.reading.Waiting.{Waiting}
 use Rattle.lg_expression.specs.declared.reading.Waiting.TheVariants as waits
 use Rattle.lg_expression.specs.declared.step.Step.{Step}
 use Rattle.lg_expression.specs.declared.step.Step.TheVariants.{Number, Argument, Negate, Operation}
-use Rattle.lg_expression.specs.Grammar.{Spells, number, argument, enclosed, negated, spaced_before, spaced_behind, applied, alone, Writes, one_digit, one_more, closeness, comparison, operand, opening, closing, minus, space, letter_x, operation_at}
+use Rattle.lg_expression.specs.Grammar.{Spells, number, argument, enclosed, negated, spaced_before, spaced_after, applied, alone, Writes, one_digit, one_more, closeness, comparison, operand, opening, closing, minus, space, letter_x, operation_at}
 use Rattle.lg_expression.specs.Reading.{State, closed_from, digit_from, ended, given, kept, longer, operator_from, read_on, steps_read, taken, then_on, whole_from, whole_of}
 
 abbrev pub at : List Step → List Waiting → Next → State
@@ -97,15 +97,15 @@ taken_sign byte op s e = by_sign (λ b o. taken b s ≡ operator_from (ended s).
 
 -- ---- texts one after the other
 
-behind_by : (r : Result State ReadError) (a b : List ℕ) → ((s : State) → read_on s (a ++ b) ≡ then_on (read_on s a) (λ t. read_on t b))
+after_by : (r : Result State ReadError) (a b : List ℕ) → ((s : State) → read_on s (a ++ b) ≡ then_on (read_on s a) (λ t. read_on t b))
     → then_on r (λ t. read_on t (a ++ b)) ≡ then_on (then_on r (λ t. read_on t a)) (λ t. read_on t b)
-behind_by (Ok s) a b h = h s
-behind_by (Err e) a b h = refl
+after_by (Ok s) a b h = h s
+after_by (Err e) a b h = refl
 
 pub read_behind : (s : State) (a b : List ℕ) → read_on s (a ++ b) ≡ then_on (read_on s a) (λ t. read_on t b)
 unfolding read_on
 read_behind s [] b = refl
-read_behind s (x ∷ a) b = behind_by (taken x s) a b (λ t. read_behind t a b)
+read_behind s (x ∷ a) b = after_by (taken x s) a b (λ t. read_behind t a b)
 
 read_one : (s t : State) (byte : ℕ) (b : List ℕ) → taken byte s ≡ Ok t → read_on s (byte ∷ b) ≡ read_on t b
 unfolding read_on
@@ -203,8 +203,8 @@ module _ (t : List ℕ) (s steps : List Step) (waiting : List Waiting) where
     keeps = a.keeps;
   }
 
-  behind_ends : Ends operand t s steps waiting → Ends operand (t ++ space ∷ []) s steps waiting
-  behind_ends a = record {
+  after_ends : Ends operand t s steps waiting → Ends operand (t ++ space ∷ []) s steps waiting
+  after_ends a = record {
     to = ended a.to;
     run = read_then (at steps waiting Operand) a.to t (space ∷ []) a.run ∙ read_one a.to (ended a.to) space [] refl ∙ read_none (ended a.to);
     behind = ap (λ (x : State). x.next) (ended_twice a.to) ∙ a.behind;
@@ -247,7 +247,7 @@ complete argument steps waiting h =
 complete (enclosed t s inner) steps waiting h = enclosed_ends t s steps waiting (complete inner steps (waits.Open ∷ waiting) refl)
 complete (negated t s inner) steps waiting h = negated_ends t s steps waiting (complete inner steps (waits.Negate ∷ waiting) refl)
 complete (spaced_before t s inner) steps waiting h = before_ends t s steps waiting (complete inner steps waiting h)
-complete (spaced_behind t s inner) steps waiting h = behind_ends t s steps waiting (complete inner steps waiting h)
+complete (spaced_after t s inner) steps waiting h = after_ends t s steps waiting (complete inner steps waiting h)
 complete (applied byte op t u s r sign left right) steps waiting h =
     applied_ends byte op t u s r steps waiting sign h (complete left steps waiting h)
     (complete right (steps ++ s) (waits.Operation op ∷ waiting) (lt-ltb (closeness op) (suc (closeness op)) (omega arith)))

@@ -65,7 +65,7 @@ pub data Spells : ℕ → List ℕ → List Step → Type 0 where
   enclosed : (t : List ℕ) (s : List Step) → Spells comparison t s → Spells operand (opening ∷ t ++ closing ∷ []) s
   negated : (t : List ℕ) (s : List Step) → Spells operand t s → Spells operand (minus ∷ t) (s ++ Negate ∷ [])
   spaced_before : (t : List ℕ) (s : List Step) → Spells operand t s → Spells operand (space ∷ t) s
-  spaced_behind : (t : List ℕ) (s : List Step) → Spells operand t s → Spells operand (t ++ space ∷ []) s
+  spaced_after : (t : List ℕ) (s : List Step) → Spells operand t s → Spells operand (t ++ space ∷ []) s
   applied : (byte : ℕ) (op : BinaryOp) (t u : List ℕ) (s r : List Step)
       → operation_at byte ≡ Some op → Spells (closeness op) t s → Spells (suc (closeness op)) u r
       → Spells (closeness op) (t ++ byte ∷ u) (s ++ r ++ Operation op ∷ [])

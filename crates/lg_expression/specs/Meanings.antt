@@ -12,7 +12,7 @@ use Rattle.lg_meaning.specs.States.{Frame, State, in_locals}
 use Rattle.lg_expression.specs.Steps.{is_whole}
 use Rattle.lg_expression.specs.Units.{nodes_of}
 use Rattle.lg_expression.specs.declared.step.Step.{Step}
-use Rattle.lg_expression.specs.Values.{AreWordSteps, behind_steps}
+use Rattle.lg_expression.specs.Values.{AreWordSteps, after_steps}
 
 -- nodes are in a text from a place on
 abbrev pub StandAt : LabelledNodes → ℕ → List Node → Type 0
@@ -57,7 +57,7 @@ abbrev pub NodesWorkExpressionsOut : Type 0
 NodesWorkExpressionsOut =
     (l : LabelledNodes) (shape : TextShape) (addresses : List ℕ) (s : State) (x : ℕ) (steps : List Step) (before after : List ℕ)
     → StandAt l s.at (nodes_of (length before) steps) → AreWordSteps steps → is_whole (length before) steps ≡ true → length before ≤ 32
-    → Holds x before s → behind_steps x steps before ≡ Some after
+    → Holds x before s → after_steps x steps before ≡ Some after
     → Comes l shape addresses s (length (nodes_of (length before) steps)) x after
 
 -- each byte of a local that takes this many bytes, after others that take some, is among the locals of a frame that has room for them: by its offset from FP,

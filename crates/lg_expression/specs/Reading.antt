@@ -79,9 +79,9 @@ abbrev pub first_step : ℕ → List Waiting → Option Step
 first_step least [] = None
 first_step least (w ∷ ws) = step_before least w
 
-abbrev pub behind_first : List Waiting → List Waiting
-behind_first [] = []
-behind_first (w ∷ ws) = ws
+abbrev pub after_first : List Waiting → List Waiting
+after_first [] = []
+after_first (w ∷ ws) = ws
 
 -- ---- a byte
 

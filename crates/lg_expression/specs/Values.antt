@@ -25,9 +25,9 @@ behind_step x Negate stack = negate stack
 behind_step x (Operation op) stack = operate op stack
 
 -- the stack after steps
-abbrev pub behind_steps : ℕ → List Step → List ℕ → Option (List ℕ)
-behind_steps x [] stack = Some stack
-behind_steps x (s ∷ steps) stack = option_and_then (behind_steps x steps) (behind_step x s stack)
+abbrev pub after_steps : ℕ → List Step → List ℕ → Option (List ℕ)
+after_steps x [] stack = Some stack
+after_steps x (s ∷ steps) stack = option_and_then (after_steps x steps) (behind_step x s stack)
 
 -- the numbers of steps are words of 64 bits
 abbrev pub IsWordStep : Step → Type 0

@@ -3,7 +3,7 @@
 ghost use Rattle.std.specs.Prelude.{◌≡◌, ◌∷◌, [], ◌++◌, IfErr, IfOk};
 ghost use Rattle.lg_expression.specs.Grammar.{HasWideNumber, IsLarge, IsNone, Spells, closeness, comparison, operation_at};
 ghost use Rattle.lg_expression.specs.declared.reading.ReadError.TheVariants as error;
-ghost use Rattle.lg_expression.specs.Reading.{Fails, Gives, Goes, argument_from, behind_first, closed_from, digit_from, ended, first, first_step, longer, opened_from, operator_from, read_on, released, shown, step_before, steps_read, taken, taken_behind, whole, whole_of};
+ghost use Rattle.lg_expression.specs.Reading.{Fails, Gives, Goes, argument_from, after_first, closed_from, digit_from, ended, first, first_step, longer, opened_from, operator_from, read_on, released, shown, step_before, steps_read, taken, taken_behind, whole, whole_of};
 
 use crate::expression::Expression;
 use crate::step::Step;
@@ -127,7 +127,7 @@ impl Reader {
     // The latest that waits, which waits no more.
     fn latest(&mut self) -> Option<Waiting>
         ensures latest { result ≡ first (shown self.old).waiting }
-        ensures rest { shown self.new ≡ record (shown self.old) { waiting = behind_first (shown self.old).waiting } }
+        ensures rest { shown self.new ≡ record (shown self.old) { waiting = after_first (shown self.old).waiting } }
     {
         self.waiting.pop()
     }
@@ -227,7 +227,7 @@ impl Reader {
     }
 
     // What ends a number: a space, a parenthesis that closes or an operator.
-    fn take_behind(&mut self, byte: u8) -> Result<(), ReadError>
+    fn take_after(&mut self, byte: u8) -> Result<(), ReadError>
         ensures { Goes result (shown self.new) (taken_behind byte (ended (shown self.old))) }
     {
         self.end_number()?;
@@ -248,7 +248,7 @@ impl Reader {
             b'0'..=b'9' => self.digit(byte - b'0'),
             b'x' => self.argument(),
             b'(' => self.open(),
-            _ => self.take_behind(byte),
+            _ => self.take_after(byte),
         }
     }
 

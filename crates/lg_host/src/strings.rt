@@ -75,16 +75,16 @@ fn signed<S: Space>(mem: &S, at: u64, byte: u8) -> Option<u64>
     ensures { result ≡ signed_in (run (S.byte_of mem.now) at) }
 {
     if byte == b'-' {
-        number_behind(mem, at, true)
+        number_after(mem, at, true)
     } else if byte == b'+' {
-        number_behind(mem, at, false)
+        number_after(mem, at, false)
     } else {
         number(mem, at, false)
     }
 }
 
 // Returns the number of the digits after an address, with none after the largest.
-fn number_behind<S: Space>(mem: &S, at: u64, negative: bool) -> Option<u64>
+fn number_after<S: Space>(mem: &S, at: u64, negative: bool) -> Option<u64>
     ensures { result ≡ number_in negative 0 (run (S.byte_of mem.now) (at + 1)) }
 {
     match at.checked_add(1) {

@@ -2,7 +2,7 @@
 use Rattle.std.proofs.Common.{◌≡◌, ℕ, zero, suc, ◌+◌, ◌-◌, ◌<◌, ◌≤◌, true, false, ◌&&◌, cond, eqb, List, length, get_or, drop, refl, sym, ap, ◌∙◌, arith, Some, None}
 use Rattle.std.proofs.lemmas.List.{drop_more, drop_all}
 use Rattle.lg_lex.specs.Bytes.{further}
-use Rattle.lg_lex.specs.Blanks.{block_rest, blank_at, behind_most_blanks}
+use Rattle.lg_lex.specs.Blanks.{block_rest, blank_at, after_most_blanks}
 use Rattle.lg_lex.proofs.ByteLemmas.{first_of_drop, further-further}
 
 block_rest_at : (bytes : List ℕ) (i : ℕ) → i < length bytes → block_rest (drop i bytes) ≡ cond (eqb (get_or bytes i 0) 42 && eqb (get_or bytes (i + 1) 0) 47) (Some 2) (further 1 (block_rest (drop (i + 1) bytes)))
@@ -23,12 +23,12 @@ pub block_rest_none : (bytes : List ℕ) (i : ℕ) → length bytes ≤ i → fu
 unfolding block_rest
 block_rest_none bytes i h = ap (λ rest. further i (block_rest rest)) (drop_all i bytes h)
 
-pub blanks_more : (k : ℕ) (bytes : List ℕ) (at n : ℕ) → 0 < k → blank_at (drop at bytes) ≡ Some n → behind_most_blanks (k - 1) bytes (at + n) ≡ behind_most_blanks k bytes at
-unfolding behind_most_blanks
+pub blanks_more : (k : ℕ) (bytes : List ℕ) (at n : ℕ) → 0 < k → blank_at (drop at bytes) ≡ Some n → after_most_blanks (k - 1) bytes (at + n) ≡ after_most_blanks k bytes at
+unfolding after_most_blanks
 blanks_more zero bytes at n h is = absurd (omega arith)
 blanks_more (suc k) bytes at n h is = let one : suc k - 1 ≡ k = omega arith in rw (one, is) refl
 
-pub blanks_end : (k : ℕ) (bytes : List ℕ) (at : ℕ) → blank_at (drop at bytes) ≡ None → behind_most_blanks k bytes at ≡ at
-unfolding behind_most_blanks
+pub blanks_end : (k : ℕ) (bytes : List ℕ) (at : ℕ) → blank_at (drop at bytes) ≡ None → after_most_blanks k bytes at ≡ at
+unfolding after_most_blanks
 blanks_end zero bytes at is = refl
 blanks_end (suc k) bytes at is = rw is refl

@@ -10,10 +10,10 @@ use Rattle.lg_lex.specs.declared.operators.Operator.{Operator}
 use Rattle.lg_lex.specs.declared.operators.Operator.TheVariants.{Multiply, Divide, Remainder, Add, Subtract, ShiftLeft, ShiftRight, Less, LessEqual, Greater, GreaterEqual, Equal, NotEqual, BitAnd, BitXor, BitOr, And, Or}
 use Rattle.lg_lex.specs.declared.operators.Sign.{Sign}
 use Rattle.lg_lex.specs.declared.expressions.Reading.{Reading}
-use Rattle.lg_lex.specs.Blanks.{blank_at, behind_most_blanks, behind_blanks}
+use Rattle.lg_lex.specs.Blanks.{blank_at, after_most_blanks, after_blanks}
 use Rattle.lg_lex.specs.Numbers.{digits_at, magnitude_at, unsigned_at}
 use Rattle.lg_lex.specs.Operators.{level_of, double_symbol, single_symbol, sign_symbol, is_zero, binary_value, unary_value}
-use Rattle.lg_lex.specs.Expressions.{Reader, behind_byte, or_single, symbol_at, operator_at, sign_at, literal_at, constant_at, closed, unary_by, unary_of, paired, combined, joined, binary_of, chosen, chosen_by, whole_of, unary_at, whole_at, ended, expression_at}
+use Rattle.lg_lex.specs.Expressions.{Reader, after_byte, or_single, symbol_at, operator_at, sign_at, literal_at, constant_at, closed, unary_by, unary_of, paired, combined, joined, binary_of, chosen, chosen_by, whole_of, unary_at, whole_at, ended, expression_at}
 use Rattle.lg_lex.specs.Trees.{Tree, literal, parens, unary, binary, conditional, value_of, levels_of, Spells, IsExpression}
 use Rattle.lg_lex.proofs.ByteLemmas.{eqb_true, within, first_of_drop, eqb_same, eqb_other, option_map_some}
 use Rattle.lg_lex.proofs.ReaderLemmas.{binary_lowest, binary_first, joined_more, joined_end, inner_unary_below, inner_whole_below, whole_plain}
@@ -21,17 +21,17 @@ use Rattle.lg_lex.proofs.ReaderLemmas.{binary_lowest, binary_first, joined_more,
 -- ---- bytes
 
 -- blanks lead forward
-blanks_forward : (k : ℕ) (bytes : List ℕ) (place : ℕ) → place ≤ behind_most_blanks k bytes place
-unfolding behind_most_blanks
+blanks_forward : (k : ℕ) (bytes : List ℕ) (place : ℕ) → place ≤ after_most_blanks k bytes place
+unfolding after_most_blanks
 blanks_forward zero bytes place = omega arith
 blanks_forward (suc k) bytes place = by_blank (blank_at (drop place bytes)) (λ n. blanks_forward k bytes (place + n)) where
-  by_blank : (o : Option ℕ) → ((n : ℕ) → place + n ≤ behind_most_blanks k bytes (place + n)) → place ≤ option_map_or (λ n. behind_most_blanks k bytes (place + n)) o place
+  by_blank : (o : Option ℕ) → ((n : ℕ) → place + n ≤ after_most_blanks k bytes (place + n)) → place ≤ option_map_or (λ n. after_most_blanks k bytes (place + n)) o place
   by_blank None h = omega arith
   by_blank (Some n) h = let more = h n in omega arith
 
-behind_forward : (bytes : List ℕ) (place : ℕ) → place ≤ behind_blanks bytes place
-unfolding behind_blanks
-behind_forward bytes place = blanks_forward (suc (length bytes)) bytes place
+after_forward : (bytes : List ℕ) (place : ℕ) → place ≤ after_blanks bytes place
+unfolding after_blanks
+after_forward bytes place = blanks_forward (suc (length bytes)) bytes place
 
 -- levels are 1 to 10
 level_bounds : (operator : Operator) → (1 ≤ level_of operator) × (level_of operator ≤ 10)
@@ -77,7 +77,7 @@ no_close : (c : ℕ) → or_single 41 (double_symbol 41 c) ≡ None
 no_close c = refl
 
 -- an operator is one of its level alone
-operator_here : (bytes : List ℕ) (place n : ℕ) (operator : Operator) → symbol_at bytes place ≡ Some (operator, n) → operator_at bytes (level_of operator) place ≡ Some (operator, behind_blanks bytes (place + n))
+operator_here : (bytes : List ℕ) (place n : ℕ) (operator : Operator) → symbol_at bytes place ≡ Some (operator, n) → operator_at bytes (level_of operator) place ≡ Some (operator, after_blanks bytes (place + n))
 unfolding operator_at
 operator_here bytes place n operator is = rw (is, eqb_same (level_of operator) (level_of operator) refl) refl
 
@@ -97,12 +97,12 @@ symbol_within bytes place n operator is = by_first (get_or bytes place 0) refl w
   by_first zero e = absurd (none-some _ (sym (ap (λ b. or_single b (double_symbol b (get_or bytes (place + 1) 0))) e) ∙ is))
   by_first (suc a) e = (len_of (get_or bytes place 0) (double_symbol (get_or bytes place 0) (get_or bytes (place + 1) 0)) is, within bytes place (omega arith))
 
-byte_here : (bytes : List ℕ) (b place : ℕ) → get_or bytes place 0 ≡ b → behind_byte bytes b place ≡ Some (behind_blanks bytes (place + 1))
-unfolding behind_byte
+byte_here : (bytes : List ℕ) (b place : ℕ) → get_or bytes place 0 ≡ b → after_byte bytes b place ≡ Some (after_blanks bytes (place + 1))
+unfolding after_byte
 byte_here bytes b place is = rw (eqb_same _ _ is) refl
 
-byte_other : (bytes : List ℕ) (b a place : ℕ) → get_or bytes place 0 ≡ a → a ≢ b → behind_byte bytes b place ≡ None
-unfolding behind_byte
+byte_other : (bytes : List ℕ) (b a place : ℕ) → get_or bytes place 0 ≡ a → a ≢ b → after_byte bytes b place ≡ None
+unfolding after_byte
 byte_other bytes b a place is other = let e : eqb (get_or bytes place 0) b ≡ false = eqb_other _ _ (rw is other) in rw e refl
 
 -- a number does not begin with a byte that is no digit
@@ -134,28 +134,28 @@ literal_first bytes l is = (
 -- ---- places
 
 Spells-forward : (bytes : List ℕ) (level : ℕ) (tree : Tree) (from to : ℕ) → Spells bytes level tree from to → from ≤ to
-Spells-forward bytes level (literal l) from to s = let end = s.1 in let more = behind_forward bytes (from + l.len) in omega arith
+Spells-forward bytes level (literal l) from to s = let end = s.1 in let more = after_forward bytes (from + l.len) in omega arith
 Spells-forward bytes level (parens tree) from to s =
-    let first = behind_forward bytes (from + 1) in
-    let inner = Spells-forward bytes 11 tree (behind_blanks bytes (from + 1)) s.1 s.2 in
-    let last = behind_forward bytes (s.1 + 1) in
+    let first = after_forward bytes (from + 1) in
+    let inner = Spells-forward bytes 11 tree (after_blanks bytes (from + 1)) s.1 s.2 in
+    let last = after_forward bytes (s.1 + 1) in
     let end = s.4 in
     omega arith
 Spells-forward bytes level (unary sign tree) from to s =
-    let first = behind_forward bytes (from + 1) in
-    let inner = Spells-forward bytes 0 tree (behind_blanks bytes (from + 1)) to s.1 in
+    let first = after_forward bytes (from + 1) in
+    let inner = Spells-forward bytes 0 tree (after_blanks bytes (from + 1)) to s.1 in
     omega arith
 Spells-forward bytes level (binary operator left right) from to s =
     let first = Spells-forward bytes (level_of operator) left from s.1 s.2 in
-    let gap = behind_forward bytes (s.1 + s.3) in
-    let second = Spells-forward bytes (level_of operator - 1) right (behind_blanks bytes (s.1 + s.3)) to s.5 in
+    let gap = after_forward bytes (s.1 + s.3) in
+    let second = Spells-forward bytes (level_of operator - 1) right (after_blanks bytes (s.1 + s.3)) to s.5 in
     omega arith
 Spells-forward bytes level (conditional test first second) from to s =
     let a = Spells-forward bytes 10 test from s.1 s.2 in
-    let b = behind_forward bytes (s.1 + 1) in
-    let c = Spells-forward bytes 11 first (behind_blanks bytes (s.1 + 1)) s.4 s.5 in
-    let d = behind_forward bytes (s.4 + 1) in
-    let e = Spells-forward bytes 11 second (behind_blanks bytes (s.4 + 1)) to s.7 in
+    let b = after_forward bytes (s.1 + 1) in
+    let c = Spells-forward bytes 11 first (after_blanks bytes (s.1 + 1)) s.4 s.5 in
+    let d = after_forward bytes (s.4 + 1) in
+    let e = Spells-forward bytes 11 second (after_blanks bytes (s.4 + 1)) to s.7 in
     omega arith
 
 -- ---- the chain of a level
@@ -211,7 +211,7 @@ climb_to bytes operand level above from read low is stops =
 record Done (bytes : List ℕ) (tree : Tree) : Type 0 where
   operand : (n from to : ℕ) (v : ℤ) → Spells bytes 0 tree from to → value_of tree ≡ Some v → levels_of tree ≤ n → unary_at bytes n from ≡ Some (reading v (levels_of tree) to)
   chain : (n level from to : ℕ) (v : ℤ) → Spells bytes (suc level) tree from to → level < 10 → value_of tree ≡ Some v → levels_of tree ≤ n → Stops bytes level to → Chain bytes (unary_at bytes n) level from (reading v (levels_of tree) to)
-  whole : (n from to : ℕ) (v : ℤ) → Spells bytes 11 tree from to → value_of tree ≡ Some v → levels_of tree ≤ n → Stops bytes 10 to → behind_byte bytes 63 to ≡ None → whole_at bytes n from ≡ Some (reading v (levels_of tree) to)
+  whole : (n from to : ℕ) (v : ℤ) → Spells bytes 11 tree from to → value_of tree ≡ Some v → levels_of tree ≤ n → Stops bytes 10 to → after_byte bytes 63 to ≡ None → whole_at bytes n from ≡ Some (reading v (levels_of tree) to)
 
 -- a tree that is read as an operand is read at every level
 abbrev OperandRead : List ℕ → Tree → Type 0
@@ -222,7 +222,7 @@ operand_chain bytes n level from read is stops =
     let lowest = sym (binary_lowest bytes (unary_at bytes n) 0 from refl) ∙ is in
     chain_start bytes (unary_at bytes n) level from read (climb_to bytes (unary_at bytes n) 0 level from read (omega arith) lowest stops)
 
-operand_whole : (bytes : List ℕ) (n from : ℕ) (read : Reading) → unary_at bytes n from ≡ Some read → Stops bytes 10 read.end → behind_byte bytes 63 read.end ≡ None → whole_at bytes n from ≡ Some read
+operand_whole : (bytes : List ℕ) (n from : ℕ) (read : Reading) → unary_at bytes n from ≡ Some read → Stops bytes 10 read.end → after_byte bytes 63 read.end ≡ None → whole_at bytes n from ≡ Some read
 operand_whole bytes n from read is stops none =
     let lowest = sym (binary_lowest bytes (unary_at bytes n) 0 from refl) ∙ is in
     whole_plain bytes n from read (climb_to bytes (unary_at bytes n) 0 10 from read (omega arith) lowest stops) none
@@ -237,7 +237,7 @@ at_level bytes tree done n (suc level) from to v spelled low value levels stops 
     (stops (suc level) (omega arith))
 
 -- an operator and its operands, at the operator's own level
-joined_chain : (bytes : List ℕ) (operator : Operator) (left right : Tree) → Done bytes left → Done bytes right → (n level from to end m : ℕ) (v : ℤ) → level_of operator ≡ suc level → Spells bytes (suc level) left from end → symbol_at bytes end ≡ Some (operator, m) → Spells bytes level right (behind_blanks bytes (end + m)) to → value_of (binary operator left right) ≡ Some v → levels_of (binary operator left right) ≤ n → Stops bytes level to → Chain bytes (unary_at bytes n) level from (reading v (levels_of (binary operator left right)) to)
+joined_chain : (bytes : List ℕ) (operator : Operator) (left right : Tree) → Done bytes left → Done bytes right → (n level from to end m : ℕ) (v : ℤ) → level_of operator ≡ suc level → Spells bytes (suc level) left from end → symbol_at bytes end ≡ Some (operator, m) → Spells bytes level right (after_blanks bytes (end + m)) to → value_of (binary operator left right) ≡ Some v → levels_of (binary operator left right) ≤ n → Stops bytes level to → Chain bytes (unary_at bytes n) level from (reading v (levels_of (binary operator left right)) to)
 unfolding combined
 joined_chain bytes operator left right lefts rights n level from to end m v own first symbol second value levels stops =
     option_and_then_some (λ a. option_and_then (binary_value operator a) (value_of right)) (value_of left) v value
@@ -245,9 +245,9 @@ joined_chain bytes operator left right lefts rights n level from to end m v own 
     (λ b there made.
     let bounds = level_bounds operator in
     let inside = symbol_within bytes end m operator symbol in
-    let gap = behind_forward bytes (end + m) in
-    let forward = Spells-forward bytes level right (behind_blanks bytes (end + m)) to second in
-    let next = behind_blanks bytes (end + m) in
+    let gap = after_forward bytes (end + m) in
+    let forward = Spells-forward bytes level right (after_blanks bytes (end + m)) to second in
+    let next = after_blanks bytes (end + m) in
     let chain = lefts.chain n level from end a first (omega arith) here (omega arith) (operator_above bytes level end m operator symbol (omega arith)) in
     let found = ap (λ k. operator_at bytes k end) (sym own) ∙ operator_here bytes end m operator symbol in
     let right_read = at_level bytes right rights n level next to b second (omega arith) there (omega arith) stops in
@@ -289,12 +289,12 @@ literal_read bytes l n from to v spelled value levels =
     let byte = first_of_drop bytes from in
     let sign : sign_symbol (get_or bytes from 0) ≡ None = ap sign_symbol (sym byte) ∙ first.0 in
     let plain : eqb (get_or bytes from 0) 40 ≡ false = ap (λ b. eqb b 40) (sym byte) ∙ first.1 in
-    rw (sign, plain, spelled.0) (ap (λ (w : ℤ). Some (reading w 0 (behind_blanks bytes (from + l.len)))) (same_Some (cast_signed w64 l.value) v value) ∙ ap (λ e. Some (reading v 0 e)) (sym spelled.1))
+    rw (sign, plain, spelled.0) (ap (λ (w : ℤ). Some (reading w 0 (after_blanks bytes (from + l.len)))) (same_Some (cast_signed w64 l.value) v value) ∙ ap (λ e. Some (reading v 0 e)) (sym spelled.1))
 
 parens_read : (bytes : List ℕ) (tree : Tree) → Done bytes tree → OperandRead bytes (parens tree)
 unfolding unary_at unary_of unary_by sign_at closed
 parens_read bytes tree done n from to v spelled value levels =
-    let inner = behind_blanks bytes (from + 1) in
+    let inner = after_blanks bytes (from + 1) in
     let sign : sign_symbol (get_or bytes from 0) ≡ None = ap sign_symbol spelled.0 in
     let mark : eqb (get_or bytes from 0) 40 ≡ true = eqb_same _ _ spelled.0 in
     let stops = stops_at bytes 10 spelled.1 41 no_close spelled.3 in
@@ -307,7 +307,7 @@ unfolding unary_at unary_of unary_by sign_at
 unary_read bytes sign tree done n from to v spelled value levels =
     option_map_some (unary_value sign) (value_of tree) v value
     (λ a here same.
-    let next = behind_blanks bytes (from + 1) in
+    let next = after_blanks bytes (from + 1) in
     let read = sym (inner_unary_below bytes n next (omega arith)) ∙ done.operand (n - 1) next to a spelled.1 here (omega arith) in
     rw (spelled.0, read) (ap (λ (w : ℤ). Some (reading w (1 + levels_of tree) to)) same))
 
@@ -323,15 +323,15 @@ done_binary bytes operator left right lefts rights =
           whole_plain bytes n from _ (chain_end bytes (unary_at bytes n) 9 from (reading v (levels_of (binary operator left right)) to) chain (stops 10 (omega arith))) none);
     }
 
-conditional_whole : (bytes : List ℕ) (test first second : Tree) → Done bytes test → Done bytes first → Done bytes second → (n from to : ℕ) (v : ℤ) → Spells bytes 11 (conditional test first second) from to → value_of (conditional test first second) ≡ Some v → levels_of (conditional test first second) ≤ n → Stops bytes 10 to → behind_byte bytes 63 to ≡ None → whole_at bytes n from ≡ Some (reading v (levels_of (conditional test first second)) to)
+conditional_whole : (bytes : List ℕ) (test first second : Tree) → Done bytes test → Done bytes first → Done bytes second → (n from to : ℕ) (v : ℤ) → Spells bytes 11 (conditional test first second) from to → value_of (conditional test first second) ≡ Some v → levels_of (conditional test first second) ≤ n → Stops bytes 10 to → after_byte bytes 63 to ≡ None → whole_at bytes n from ≡ Some (reading v (levels_of (conditional test first second)) to)
 unfolding whole_at whole_of chosen_by chosen
 conditional_whole bytes test first second tests firsts seconds n from to v s value levels stops none =
     option_and_then_some (λ a. option_and_then (λ b. option_map (λ c. cond (is_zero a) c b) (value_of second)) (value_of first)) (value_of test) v value
     (λ a test_is rest. option_and_then_some (λ b. option_map (λ c. cond (is_zero a) c b) (value_of second)) (value_of first) v rest
     (λ b first_is rest'. option_map_some (λ c. cond (is_zero a) c b) (value_of second) v rest'
     (λ c second_is same.
-    let next = behind_blanks bytes (s.1 + 1) in
-    let after = behind_blanks bytes (s.4 + 1) in
+    let next = after_blanks bytes (s.1 + 1) in
+    let after = after_blanks bytes (s.4 + 1) in
     let test_read = at_level bytes test tests n 10 from s.1 a s.2 (omega arith) test_is (omega arith) (stops_at bytes 10 s.1 63 no_question s.3) in
     let first_read = sym (inner_whole_below bytes n next (omega arith)) ∙ firsts.whole (n - 1) next s.4 b s.5 first_is (omega arith) (stops_at bytes 10 s.4 58 no_colon s.6) (byte_other bytes 63 58 s.4 s.6 (omega arith)) in
     let second_read = sym (inner_whole_below bytes n after (omega arith)) ∙ seconds.whole (n - 1) after to c s.7 second_is (omega arith) stops none in
@@ -357,5 +357,5 @@ done bytes (conditional test first second) = done_conditional bytes test first s
 pub expression_complete : (bytes : List ℕ) (len : ℕ) (v : ℤ) (is : IsExpression bytes len v) → expression_at bytes ≡ Some (record { value = v; levels = levels_of is.tree; end = is.end })
 unfolding expression_at ended
 expression_complete bytes len v is =
-    let whole = (done bytes is.tree).whole 64 (behind_blanks bytes 2) is.end v is.spelled is.value_is is.low (stops_at bytes 10 is.end 41 no_close is.closed) (byte_other bytes 63 41 is.end is.closed (omega arith)) in
+    let whole = (done bytes is.tree).whole 64 (after_blanks bytes 2) is.end v is.spelled is.value_is is.low (stops_at bytes 10 is.end 41 no_close is.closed) (byte_other bytes 63 41 is.end is.closed (omega arith)) in
     rw (whole, eqb_same _ _ is.closed) refl

@@ -23,7 +23,7 @@ use Rattle.lg_lex.specs.Numbers.{number_at}
 use Rattle.lg_lex.specs.Trees.{IsExpression}
 use Rattle.lg_lex.specs.ExpressionTokens.{HasExpression, ReadsExpressions}
 use Rattle.lg_lex.specs.Fronts.{word_len, word_at, marked_at, marker_at, literal_token, expression_token, string_token, dollar_at, mark_at, token_at, front_at}
-use Rattle.lg_lex.specs.Tokens.{Tokens, line_of, is_fresh, behind_piece, with_front, tokens_from, tokens_at, tokens_of}
+use Rattle.lg_lex.specs.Tokens.{Tokens, line_of, is_fresh, after_piece, with_front, tokens_from, tokens_at, tokens_of}
 use Rattle.lg_lex.proofs.ByteLemmas.{eqb_true}
 use Rattle.lg_lex.proofs.SoundLemmas.{expression_sound}
 use Rattle.lg_lex.proofs.CompleteLemmas.{expression_complete}
@@ -126,15 +126,15 @@ fault_of_expression bytes (inr dollar) = (dollar.0, dollar.1, λ len value is. b
   by_reading (Some read) is same = cc
 
 -- one piece more
-front_reads : (text : List ℕ) (place : ℕ) (behind : ℕ → Tokens) → ((n : ℕ) → ReadsExpressions text (behind (behind_piece place n))) → (front : Front) → IsEither (drop place text) front → ReadsExpressions text (with_front text place behind front)
+front_reads : (text : List ℕ) (place : ℕ) (behind : ℕ → Tokens) → ((n : ℕ) → ReadsExpressions text (behind (after_piece place n))) → (front : Front) → IsEither (drop place text) front → ReadsExpressions text (with_front text place behind front)
 unfolding with_front
 front_reads text place behind rest Nothing either = (All-nil (HasExpression text), tt)
 front_reads text place behind rest (Skips n) either = rest n
 front_reads text place behind rest (Finds kind n value) either = (
-  All-cons (HasExpression text) (record { kind = kind; line = line_of text place; start = place; end = behind_piece place n; value = value }) (behind (behind_piece place n)).0 (λ e.
+  All-cons (HasExpression text) (record { kind = kind; line = line_of text place; start = place; end = after_piece place n; value = value }) (behind (after_piece place n)).0 (λ e.
       let found = token_of_expression (drop place text) kind n value either e in
       let some = IsExpression-some (drop place text) n found.0 found.2 in
-      let len : n ≡ behind_piece place n - place = omega arith in
+      let len : n ≡ after_piece place n - place = omega arith in
       (found.0, found.1, subst (λ k. IsExpression (drop place text) k found.0) len found.2)) (rest n).0,
   (rest n).1,
 )
@@ -150,7 +150,7 @@ tokens_read : (k : ℕ) (text : List ℕ) (place : ℕ) → ReadsExpressions tex
 unfolding tokens_from
 tokens_read zero text place = (All-nil (HasExpression text), tt)
 tokens_read (suc k) text place =
-    front_reads text place (tokens_from k text) (λ n. tokens_read k text (behind_piece place n)) (front_at (is_fresh text place) (drop place text)) (front_either (is_fresh text place) (drop place text))
+    front_reads text place (tokens_from k text) (λ n. tokens_read k text (after_piece place n)) (front_at (is_fresh text place) (drop place text)) (front_either (is_fresh text place) (drop place text))
 
 -- the tokens of a text read its expressions
 pub tokens_of-expressions : (text : List ℕ) → ReadsExpressions text (tokens_of text)

@@ -16,7 +16,7 @@ use Rattle.lg_lex.specs.declared.fronts.Front.{Front}
 use Rattle.lg_lex.specs.declared.fronts.Front.TheVariants.{Skips, Fails}
 use Rattle.lg_base.specs.WordBytes.{is_word_start, is_word_byte}
 use Rattle.lg_lex.specs.Bytes.{is_in_line}
-use Rattle.lg_lex.specs.Blanks.{blank_at, behind_blanks}
+use Rattle.lg_lex.specs.Blanks.{blank_at, after_blanks}
 use Rattle.lg_lex.specs.Numbers.{number_at}
 use Rattle.lg_lex.specs.Escapes.{character_at, string_at}
 use Rattle.lg_lex.specs.Expressions.{whole_at, ended, expression_at}
@@ -82,7 +82,7 @@ expression_token_within : (bytes : List ℕ) (expression : Option Reading) → e
 unfolding expression_at ended
 expression_token_within bytes None is = tt
 expression_token_within bytes (Some read) is =
-    option_and_then_some (ended bytes) (whole_at bytes 64 (behind_blanks bytes 2)) read is
+    option_and_then_some (ended bytes) (whole_at bytes 64 (after_blanks bytes 2)) read is
     (λ whole _ kept.
     let both = cond_some (eqb (get_or bytes whole.end 0) 41) whole read kept in
     let close = ap (λ (r : Reading). get_or bytes r.end 0) (sym both.1) ∙ eqb_true _ _ both.0 in

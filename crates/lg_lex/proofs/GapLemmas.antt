@@ -16,7 +16,7 @@ use Rattle.lg_lex.specs.Escapes.{character_at, string_at}
 use Rattle.lg_lex.specs.Expressions.{expression_at}
 use Rattle.lg_lex.specs.Fronts.{LiesWithin, dollar_at, expression_token, front_at, literal_token, mark_at, marked_at, marker_at, string_token, token_at, word_at, word_len}
 use Rattle.lg_lex.specs.Numbers.{number_at}
-use Rattle.lg_lex.specs.Tokens.{Tokens, behind_piece, is_fresh, line_of, tokens_at, tokens_from, with_byte, with_front}
+use Rattle.lg_lex.specs.Tokens.{Tokens, after_piece, is_fresh, line_of, tokens_at, tokens_from, with_byte, with_front}
 use Rattle.lg_lex.specs.declared.token.Token.{Token}
 use Rattle.lg_lex.specs.declared.token.TokenKind.{TokenKind}
 use Rattle.lg_lex.specs.declared.token.TokenKind.TheVariants.{Directive, Register, Number, Character, Name, Host}
@@ -240,11 +240,11 @@ module _ (text : List ℕ) (place : ℕ) where
   gap_before middle (token ∷ tokens) fault h rest = (behind place middle token.start h rest.0, rest.1)
 
 module _ (text : List ℕ) (place k : ℕ) (inside : place < length text)
-    (rest : (n : ℕ) → (0 < n) × (n ≤ length (drop place text)) → StandApart text (behind_piece place n) (tokens_from k text (behind_piece place n)).0 (tokens_from k text (behind_piece place n)).1) where
-  skipped : (n : ℕ) → MeansNothing text place (place + n) → (0 < n) × (n ≤ length (drop place text)) → Apart text place (tokens_from k text (behind_piece place n))
+    (rest : (n : ℕ) → (0 < n) × (n ≤ length (drop place text)) → StandApart text (after_piece place n) (tokens_from k text (after_piece place n)).0 (tokens_from k text (after_piece place n)).1) where
+  skipped : (n : ℕ) → MeansNothing text place (place + n) → (0 < n) × (n ≤ length (drop place text)) → Apart text place (tokens_from k text (after_piece place n))
   skipped n h within =
-      let is : behind_piece place n ≡ place + n = omega (arith, within.0) in
-      let tokens = tokens_from k text (behind_piece place n) in
+      let is : after_piece place n ≡ place + n = omega (arith, within.0) in
+      let tokens = tokens_from k text (after_piece place n) in
       let P : ℕ → Type 0 = λ m. StandApart text m tokens.0 tokens.1 in
       gap_before text place (place + n) tokens.0 tokens.1 h (subst P is (rest n within))
 
@@ -349,7 +349,7 @@ apart_from (suc k) text place inside few =
     let left = length-drop place text in
     ⊎_elim
     (λ (lt : place < length text).
-    front_apart text place k lt (λ n within. apart_from k text (behind_piece place n) (omega (arith, within.0, within.1, left)) (omega (arith, few))) (front_within (is_fresh text place) (drop place text)))
+    front_apart text place k lt (λ n within. apart_from k text (after_piece place n) (omega (arith, within.0, within.1, left)) (omega (arith, few))) (front_within (is_fresh text place) (drop place text)))
     (λ (le : length text ≤ place). at_end text place k inside le) (cases_lt place (length text))
 
 pub stand_apart : TokensStandApart

@@ -11,7 +11,7 @@ use Rattle.lg_lex.specs.declared.escapes.TextByte.{TextByte}
 use Rattle.lg_lex.specs.Bytes.{further, is_space, is_in_line, is_suffix_letter}
 use Rattle.lg_lex.specs.Blanks.{block_rest, comment_at, blank_at}
 use Rattle.lg_lex.specs.Numbers.{narrowed, digits_value, longer, digits_at, magnitude_at, suffix_at, unsigned_at, negated, number_at}
-use Rattle.lg_lex.specs.Escapes.{letter_escape, byte_value, digits_escape, behind_mark, escape_at, text_byte_at, character_end, character_at, string_rest, string_at}
+use Rattle.lg_lex.specs.Escapes.{letter_escape, byte_value, digits_escape, after_mark, escape_at, text_byte_at, character_end, character_at, string_rest, string_at}
 use Rattle.lg_lex.proofs.ByteLemmas.{eqb_true, within, option_map_some, cond_case}
 
 pub eqb_false : (b : ℕ) → eqb b 0 ≡ false → 0 < b
@@ -110,7 +110,7 @@ escape_within bytes found h =
     cond_case (is_digit (get_or bytes 0 0) 8) _ _ _ h
     (λ _ octal. digits_escape_within 8 3 bytes found octal)
     (λ _ other. cond_case (eqb (get_or bytes 0 0) 120) _ _ _ other
-    (λ _ hexadecimal. option_map_some (behind_mark 1) (digits_escape 16 2 (drop 1 bytes)) found hexadecimal
+    (λ _ hexadecimal. option_map_some (after_mark 1) (digits_escape 16 2 (drop 1 bytes)) found hexadecimal
     (λ inner is same. mark_more bytes inner found (digits_escape_within 16 2 (drop 1 bytes) inner is) (ap (λ (x : TextByte). x.len) same)))
     (λ _ letter. option_map_some (λ byte. (let x : TextByte = record { len = 1; byte = byte } in x)) (letter_escape (get_or bytes 0 0)) found letter
     (λ byte is same. let len = ap (λ (x : TextByte). x.len) same in let some = letter_positive bytes byte is in (omega arith, omega arith))))
@@ -121,7 +121,7 @@ text_byte_within bytes found h =
     cond_case (eqb (length bytes) 0) _ _ _ h (λ _ none. absurd (none-some found none))
     (λ some here. let positive = eqb_false (length bytes) some in
     cond_case (eqb (get_or bytes 0 0) 92) _ _ _ here
-    (λ _ escape. option_map_some (behind_mark 1) (escape_at (drop 1 bytes)) found escape
+    (λ _ escape. option_map_some (after_mark 1) (escape_at (drop 1 bytes)) found escape
     (λ inner is same. mark_more bytes inner found (escape_within (drop 1 bytes) inner is) (ap (λ (x : TextByte). x.len) same)))
     (λ _ other. cond_case (eqb (get_or bytes 0 0) 10) _ _ _ other
     (λ _ none. absurd (none-some found none))

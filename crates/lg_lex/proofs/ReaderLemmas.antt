@@ -2,7 +2,7 @@
 use Rattle.std.proofs.Common.{◌≡◌, ℕ, zero, suc, ◌-◌, ◌<◌, List, length, refl, sym, ap, ◌∙◌, arith, Option, Some, None}
 use Rattle.lg_lex.specs.declared.operators.Operator.{Operator}
 use Rattle.lg_lex.specs.declared.expressions.Reading.{Reading}
-use Rattle.lg_lex.specs.Expressions.{Reader, operator_at, behind_byte, combined, joined, binary_of, chosen_by, whole_of, readers_in, inner_unary, inner_whole, unary_at, whole_at}
+use Rattle.lg_lex.specs.Expressions.{Reader, operator_at, after_byte, combined, joined, binary_of, chosen_by, whole_of, readers_in, inner_unary, inner_whole, unary_at, whole_at}
 
 module _ (bytes : List ℕ) (unary : Reader) where
   -- below all operators stands an operand
@@ -72,6 +72,6 @@ inner_whole_below bytes zero place h = absurd (omega arith)
 inner_whole_below bytes (suc n) place h = let one : suc n - 1 ≡ n = omega arith in ap (λ k. whole_at bytes k place) one
 
 -- no ? follows the operators
-pub whole_plain : (bytes : List ℕ) (n place : ℕ) (test : Reading) → binary_of bytes (unary_at bytes n) 10 place ≡ Some test → behind_byte bytes 63 test.end ≡ None → whole_at bytes n place ≡ Some test
+pub whole_plain : (bytes : List ℕ) (n place : ℕ) (test : Reading) → binary_of bytes (unary_at bytes n) 10 place ≡ Some test → after_byte bytes 63 test.end ≡ None → whole_at bytes n place ≡ Some test
 unfolding whole_at whole_of chosen_by
 whole_plain bytes n place test is none = rw (is, none) refl

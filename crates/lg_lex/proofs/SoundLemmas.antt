@@ -5,9 +5,9 @@ use Rattle.std.proofs.lemmas.Bool.Decides.{nat_tests}
 use Rattle.lg_lex.specs.declared.operators.Operator.{Operator}
 use Rattle.lg_lex.specs.declared.operators.Sign.{Sign}
 use Rattle.lg_lex.specs.declared.expressions.Reading.{Reading}
-use Rattle.lg_lex.specs.Blanks.{behind_blanks}
+use Rattle.lg_lex.specs.Blanks.{after_blanks}
 use Rattle.lg_lex.specs.Operators.{level_of, sign_symbol, is_zero, binary_value, unary_value}
-use Rattle.lg_lex.specs.Expressions.{Reader, behind_byte, symbol_at, in_level, operator_at, sign_at, literal_at, constant, constant_at, signed, enclosed, closed, unary_by, unary_of, paired, combined, joined_by, joined, binary_of, chosen, chosen_by, whole_of, readers_in, inner_unary, inner_whole, unary_at, whole_at, ended, expression_at}
+use Rattle.lg_lex.specs.Expressions.{Reader, after_byte, symbol_at, in_level, operator_at, sign_at, literal_at, constant, constant_at, signed, enclosed, closed, unary_by, unary_of, paired, combined, joined_by, joined, binary_of, chosen, chosen_by, whole_of, readers_in, inner_unary, inner_whole, unary_at, whole_at, ended, expression_at}
 use Rattle.lg_lex.specs.Trees.{Tree, literal, parens, unary, binary, conditional, value_of, levels_of, Spells, IsExpression}
 use Rattle.lg_lex.proofs.ByteLemmas.{eqb_true, option_map_some, cond_case}
 
@@ -34,24 +34,24 @@ higher : (bytes : List ℕ) (level above most from : ℕ) (read : Reading) → l
 higher bytes level above most from read h r = record { tree = r.tree; spelled = Spells-higher bytes level above r.tree from read.end h r.spelled; value_is = r.value_is; levels_are = r.levels_are; low = r.low }
 
 -- what the parts say
-behind_byte_some : (bytes : List ℕ) (b place next : ℕ) → behind_byte bytes b place ≡ Some next → (slice_index bytes place ≡ b) × (next ≡ behind_blanks bytes (place + 1))
-unfolding behind_byte
-behind_byte_some bytes b place next h = let both = cond_some (eqb (get_or bytes place 0) b) (behind_blanks bytes (place + 1)) next h in (eqb_true _ _ both.0, sym both.1)
+after_byte_some : (bytes : List ℕ) (b place next : ℕ) → after_byte bytes b place ≡ Some next → (slice_index bytes place ≡ b) × (next ≡ after_blanks bytes (place + 1))
+unfolding after_byte
+after_byte_some bytes b place next h = let both = cond_some (eqb (get_or bytes place 0) b) (after_blanks bytes (place + 1)) next h in (eqb_true _ _ both.0, sym both.1)
 
-pub operator_some : (bytes : List ℕ) (level place next : ℕ) (operator : Operator) → operator_at bytes level place ≡ Some (operator, next) → (level_of operator ≡ level) × (n : ℕ) × (symbol_at bytes place ≡ Some (operator, n)) × (next ≡ behind_blanks bytes (place + n))
+pub operator_some : (bytes : List ℕ) (level place next : ℕ) (operator : Operator) → operator_at bytes level place ≡ Some (operator, next) → (level_of operator ≡ level) × (n : ℕ) × (symbol_at bytes place ≡ Some (operator, n)) × (next ≡ after_blanks bytes (place + n))
 unfolding operator_at
 operator_some bytes level place next operator h =
     option_and_then_some (in_level bytes level place) (symbol_at bytes place) (operator, next) h
     (λ (found : Operator × ℕ) is kept.
-    let both = cond_some (eqb (level_of found.0) level) (let p : Operator × ℕ = (found.0, behind_blanks bytes (place + found.1)) in p) (operator, next) kept in
+    let both = cond_some (eqb (level_of found.0) level) (let p : Operator × ℕ = (found.0, after_blanks bytes (place + found.1)) in p) (operator, next) kept in
     let op : found.0 ≡ operator = ap (λ (p : Operator × ℕ). p.0) both.1 in
-    let end : behind_blanks bytes (place + found.1) ≡ next = ap (λ (p : Operator × ℕ). p.1) both.1 in
+    let end : after_blanks bytes (place + found.1) ≡ next = ap (λ (p : Operator × ℕ). p.1) both.1 in
     (sym (ap level_of op) ∙ eqb_true _ _ both.0, found.1, is ∙ ap (λ o. Some (let p : Operator × ℕ = (o, found.1) in p)) op, sym end))
 
-sign_some : (bytes : List ℕ) (place next : ℕ) (sign : Sign) → sign_at bytes place ≡ Some (sign, next) → (sign_symbol (slice_index bytes place) ≡ Some sign) × (next ≡ behind_blanks bytes (place + 1))
+sign_some : (bytes : List ℕ) (place next : ℕ) (sign : Sign) → sign_at bytes place ≡ Some (sign, next) → (sign_symbol (slice_index bytes place) ≡ Some sign) × (next ≡ after_blanks bytes (place + 1))
 unfolding sign_at
 sign_some bytes place next sign h =
-    option_map_some (λ s. (let p : Sign × ℕ = (s, behind_blanks bytes (place + 1)) in p)) (sign_symbol (slice_index bytes place)) (sign, next) h
+    option_map_some (λ s. (let p : Sign × ℕ = (s, after_blanks bytes (place + 1)) in p)) (sign_symbol (slice_index bytes place)) (sign, next) h
     (λ s is same. (is ∙ ap Some (ap (λ (p : Sign × ℕ). p.0) same), sym (ap (λ (p : Sign × ℕ). p.1) same)))
 
 -- readers that read what the grammar spells
@@ -74,12 +74,12 @@ constant_sound bytes most from read h =
     })
 
 -- an expression in parentheses, from its ( on
-parens_sound : (bytes : List ℕ) (n from : ℕ) (inner read : Reading) → slice_index bytes from ≡ 40 → Reads bytes 11 n (behind_blanks bytes (from + 1)) inner × (inner.levels < n) → closed bytes inner ≡ Some read → Reads bytes 0 n from read
+parens_sound : (bytes : List ℕ) (n from : ℕ) (inner read : Reading) → slice_index bytes from ≡ 40 → Reads bytes 11 n (after_blanks bytes (from + 1)) inner × (inner.levels < n) → closed bytes inner ≡ Some read → Reads bytes 0 n from read
 unfolding closed
 parens_sound bytes n from inner read begun reads h =
-    option_map_some (enclosed inner) (behind_byte bytes 41 inner.end) read h
+    option_map_some (enclosed inner) (after_byte bytes 41 inner.end) read h
     (λ end is same.
-    let close = behind_byte_some bytes 41 inner.end end is in
+    let close = after_byte_some bytes 41 inner.end end is in
     let levels = ap (λ (r : Reading). r.levels) same in
     let levels' = reads.0.levels_are in
     record {
@@ -112,8 +112,8 @@ unary_sound bytes n operand whole operands wholes from read h = by_sign (sign_at
       (λ inner here same. signed_sound bytes n from found.1 found.0 inner read is (operands found.1 inner here) same)
   by_sign None is h' =
       cond_case (eqb (get_or bytes from 0) 40) _ _ _ h'
-      (λ begun inside. option_and_then_some (closed bytes) (whole (behind_blanks bytes (from + 1))) read inside
-      (λ inner here close. parens_sound bytes n from inner read (eqb_true _ _ begun) (wholes (behind_blanks bytes (from + 1)) inner here) close))
+      (λ begun inside. option_and_then_some (closed bytes) (whole (after_blanks bytes (from + 1))) read inside
+      (λ inner here close. parens_sound bytes n from inner read (eqb_true _ _ begun) (wholes (after_blanks bytes (from + 1)) inner here) close))
       (λ _ plain. constant_sound bytes n from read plain)
 
 -- two operands and the operator between them
@@ -137,7 +137,7 @@ combined_sound bytes level n from next operator left right read lefts is rights 
         subst (λ k. Spells bytes k lefts.tree from left.end) (sym found.0) lefts.spelled,
         found.1,
         found.2,
-        subst (λ k. Spells bytes k rights.tree (behind_blanks bytes (left.end + found.1)) read.end) (sym below)
+        subst (λ k. Spells bytes k rights.tree (after_blanks bytes (left.end + found.1)) read.end) (sym below)
             (subst (λ place. Spells bytes level rights.tree place read.end) found.3
             (subst (λ end. Spells bytes level rights.tree next end) (ap (λ (r : Reading). r.end) same) rights.spelled)),
       );
@@ -172,14 +172,14 @@ binary_sound bytes n operand operands (suc level) from read h =
     (higher bytes level (suc level) n from left (omega arith) (binary_sound bytes n operand operands level from left here)) more)
 
 -- a conditional
-chosen_sound : (bytes : List ℕ) (n from next after : ℕ) (test first second read : Reading) → Reads bytes 10 n from test → behind_byte bytes 63 test.end ≡ Some next → Reads bytes 11 n next first → behind_byte bytes 58 first.end ≡ Some after → Reads bytes 11 n after second → chosen n test first second ≡ Some read → Reads bytes 11 n from read
+chosen_sound : (bytes : List ℕ) (n from next after : ℕ) (test first second read : Reading) → Reads bytes 10 n from test → after_byte bytes 63 test.end ≡ Some next → Reads bytes 11 n next first → after_byte bytes 58 first.end ≡ Some after → Reads bytes 11 n after second → chosen n test first second ≡ Some read → Reads bytes 11 n from read
 unfolding chosen
 chosen_sound bytes n from next after test first second read tests mark firsts colon seconds h =
     let levels = 1 + max test.levels (max first.levels second.levels) in
     let made = λ (v : ℤ). (let r : Reading = record { value = v; levels = levels; end = second.end } in r) in
     let both = cond_some (leb levels n) (made (cond (is_zero test.value) second.value first.value)) read h in
-    let question = behind_byte_some bytes 63 test.end next mark in
-    let colons = behind_byte_some bytes 58 first.end after colon in
+    let question = after_byte_some bytes 63 test.end next mark in
+    let colons = after_byte_some bytes 58 first.end after colon in
     let t = tests.levels_are in
     let f = firsts.levels_are in
     let s = seconds.levels_are in
@@ -206,13 +206,13 @@ chosen_sound bytes n from next after test first second read tests mark firsts co
 lower : (bytes : List ℕ) (n from : ℕ) (read : Reading) → Reads bytes 11 n from read × (read.levels < n) → Reads bytes 11 n from read
 lower bytes n from read h = h.0
 
-chosen_by_sound : (bytes : List ℕ) (n from : ℕ) (inner : Reader) (test read : Reading) → SoundBelow bytes 11 n inner → Reads bytes 10 n from test → (mark : Option ℕ) → behind_byte bytes 63 test.end ≡ mark → chosen_by bytes inner n test mark ≡ Some read → Reads bytes 11 n from read
+chosen_by_sound : (bytes : List ℕ) (n from : ℕ) (inner : Reader) (test read : Reading) → SoundBelow bytes 11 n inner → Reads bytes 10 n from test → (mark : Option ℕ) → after_byte bytes 63 test.end ≡ mark → chosen_by bytes inner n test mark ≡ Some read → Reads bytes 11 n from read
 unfolding chosen_by
 chosen_by_sound bytes n from inner test read inners tests None is h = subst (Reads bytes 11 n from) (same_Some test read h) (higher bytes 10 11 n from test (omega arith) tests)
 chosen_by_sound bytes n from inner test read inners tests (Some next) is h =
-    option_and_then_some (λ first. option_and_then (λ after. option_and_then (chosen n test first) (inner after)) (behind_byte bytes 58 first.end)) (inner next) read h
+    option_and_then_some (λ first. option_and_then (λ after. option_and_then (chosen n test first) (inner after)) (after_byte bytes 58 first.end)) (inner next) read h
     (λ first here then.
-    option_and_then_some (λ after. option_and_then (chosen n test first) (inner after)) (behind_byte bytes 58 first.end) read then
+    option_and_then_some (λ after. option_and_then (chosen n test first) (inner after)) (after_byte bytes 58 first.end) read then
     (λ after colon last.
     option_and_then_some (chosen n test first) (inner after) read last
     (λ second there made.
@@ -221,8 +221,8 @@ chosen_by_sound bytes n from inner test read inners tests (Some next) is h =
 whole_sound : (bytes : List ℕ) (n : ℕ) (operand inner : Reader) → Sound bytes 0 n operand → SoundBelow bytes 11 n inner → Sound bytes 11 n (whole_of bytes operand inner n)
 unfolding whole_of
 whole_sound bytes n operand inner operands inners from read h =
-    option_and_then_some (λ test. chosen_by bytes inner n test (behind_byte bytes 63 test.end)) (binary_of bytes operand 10 from) read h
-    (λ test here more. chosen_by_sound bytes n from inner test read inners (binary_sound bytes n operand operands 10 from test here) (behind_byte bytes 63 test.end) refl more)
+    option_and_then_some (λ test. chosen_by bytes inner n test (after_byte bytes 63 test.end)) (binary_of bytes operand 10 from) read h
+    (λ test here more. chosen_by_sound bytes n from inner test read inners (binary_sound bytes n operand operands 10 from test here) (after_byte bytes 63 test.end) refl more)
 
 -- ---- by the levels that are left
 
@@ -251,11 +251,11 @@ whole_at_sound bytes n =
 pub expression_sound : (bytes : List ℕ) (read : Reading) → expression_at bytes ≡ Some read → IsExpression bytes (read.end + 1) read.value
 unfolding expression_at ended
 expression_sound bytes read h =
-    option_and_then_some (ended bytes) (whole_at bytes 64 (behind_blanks bytes 2)) read h
+    option_and_then_some (ended bytes) (whole_at bytes 64 (after_blanks bytes 2)) read h
     (λ whole here kept.
     let both = cond_some (eqb (get_or bytes whole.end 0) 41) whole read kept in
     let close = eqb_true _ _ both.0 in
-    let reads = subst (Reads bytes 11 64 (behind_blanks bytes 2)) both.1 (whole_at_sound bytes 64 (behind_blanks bytes 2) whole here) in
+    let reads = subst (Reads bytes 11 64 (after_blanks bytes 2)) both.1 (whole_at_sound bytes 64 (after_blanks bytes 2) whole here) in
     record {
       tree = reads.tree;
       end = read.end;

@@ -14,15 +14,15 @@ use Rattle.lg_lex.specs.declared.fronts.Front.TheVariants.{Nothing, Skips, Finds
 use Rattle.lg_lex.specs.Blanks.{blank_at}
 use Rattle.lg_lex.specs.Bytes.{is_space}
 use Rattle.lg_lex.specs.Fronts.{LiesWithin, front_at}
-use Rattle.lg_lex.specs.Tokens.{line_of, with_byte, is_fresh, Tokens, token_then, behind_piece, with_front, tokens_from, tokens_at, tokens_of, AreInOrder, Gives, IsPlace}
+use Rattle.lg_lex.specs.Tokens.{line_of, with_byte, is_fresh, Tokens, token_then, after_piece, with_front, tokens_from, tokens_at, tokens_of, AreInOrder, Gives, IsPlace}
 use Rattle.lg_lex.proofs.FrontLemmas.{front_within}
 
 -- readers that agree after the piece agree
-same_front : (text : List ℕ) (place : ℕ) (f g : ℕ → Tokens) (front : Front) → ((n : ℕ) → f (behind_piece place n) ≡ g (behind_piece place n)) → with_front text place f front ≡ with_front text place g front
+same_front : (text : List ℕ) (place : ℕ) (f g : ℕ → Tokens) (front : Front) → ((n : ℕ) → f (after_piece place n) ≡ g (after_piece place n)) → with_front text place f front ≡ with_front text place g front
 unfolding with_front
 same_front text place f g Nothing h = refl
 same_front text place f g (Skips n) h = h n
-same_front text place f g (Finds kind n value) h = ap (λ (tokens : Tokens). token_then (record { kind = kind; line = line_of text place; start = place; end = behind_piece place n; value = value }) tokens) (h n)
+same_front text place f g (Finds kind n value) h = ap (λ (tokens : Tokens). token_then (record { kind = kind; line = line_of text place; start = place; end = after_piece place n; value = value }) tokens) (h n)
 same_front text place f g (Fails kind) h = refl
 
 past_end : (k : ℕ) (text : List ℕ) (place : ℕ) → length text ≤ place → tokens_from k text place ≡ ([], None)
@@ -37,22 +37,22 @@ enough zero k text place p q = sym (past_end k text place (omega arith))
 enough (suc j) zero text place p q = past_end (suc j) text place (omega arith)
 enough (suc j) (suc k) text place p q =
     same_front text place (tokens_from j text) (tokens_from k text) (front_at (is_fresh text place) (drop place text))
-    (λ n. enough j k text (behind_piece place n) (omega arith) (omega arith))
+    (λ n. enough j k text (after_piece place n) (omega arith) (omega arith))
 
 -- the tokens from a place on are those of the piece there and after it
 pub tokens_step : (text : List ℕ) (place : ℕ) → tokens_at text place ≡ with_front text place (tokens_at text) (front_at (is_fresh text place) (drop place text))
 unfolding tokens_at tokens_from
 tokens_step text place =
     same_front text place (tokens_from (length text) text) (tokens_at text) (front_at (is_fresh text place) (drop place text))
-    (λ n. enough (length text) (suc (length text)) text (behind_piece place n) (omega arith) (omega arith))
+    (λ n. enough (length text) (suc (length text)) text (after_piece place n) (omega arith) (omega arith))
 
 -- a piece is as long as it says
 pub piece_end : (place end n : ℕ) (bytes piece : List ℕ) → piece ≡ take n bytes → n ≤ length bytes → end ≡ place + length piece → end ≡ place + n
 piece_end place end n bytes piece e inside ends = ends ∙ ap (λ k. place + k) (ap length e ∙ length-take-le n bytes inside)
 
 -- the place after a piece
-pub place_behind : (text : List ℕ) (place line n end line' : ℕ) (fresh fresh' : Bool) (bytes piece : List ℕ) → IsPlace text place line fresh → bytes ≡ drop place text → piece ≡ take n bytes → n ≤ length bytes → end ≡ place + length piece → line' ≡ line + count_by (λ b. b == 10) piece → fresh' ≡ fold with_byte fresh piece → IsPlace text end line' fresh'
-place_behind text place line n end line' fresh fresh' bytes piece at rest cut inside ends lines freshes =
+pub place_after : (text : List ℕ) (place line n end line' : ℕ) (fresh fresh' : Bool) (bytes piece : List ℕ) → IsPlace text place line fresh → bytes ≡ drop place text → piece ≡ take n bytes → n ≤ length bytes → end ≡ place + length piece → line' ≡ line + count_by (λ b. b == 10) piece → fresh' ≡ fold with_byte fresh piece → IsPlace text end line' fresh'
+place_after text place line n end line' fresh fresh' bytes piece at rest cut inside ends lines freshes =
     let len = ap length rest ∙ length-drop place text in
     let end' = piece_end place end n bytes piece cut inside ends in
     let whole : take end text ≡ take place text ++ piece = ap (λ k. take k text) end' ∙ take-add place n text ∙ ap (λ (xs : List ℕ). take place text ++ xs) (ap (take n) (sym rest) ∙ sym cut) in
@@ -81,18 +81,18 @@ module _ (text : List ℕ) (place line : ℕ) (fresh : Bool) (at : IsPlace text 
   pub skipped : (n end : ℕ) → 0 < n → end ≡ place + n → front_at fresh (drop place text) ≡ Skips n → tokens_at text end ≡ whole
   unfolding with_front
   skipped n end some e is =
-      let piece : end ≡ behind_piece place n = omega arith in
+      let piece : end ≡ after_piece place n = omega arith in
       ap (tokens_at text) piece ∙ sym (here (Skips n) is)
 
   -- a token is the first of what is left
   pub gives_token : (kind : TokenKind) (n value end : ℕ) → 0 < n → end ≡ place + n → front_at fresh (drop place text) ≡ Finds kind n value → Gives whole (Ok (Some (record { kind = kind; line = line; start = place; end = end; value = value }))) (tokens_at text end)
   unfolding with_front
   gives_token kind n value end some e is =
-      let piece : behind_piece place n ≡ end = omega arith in
+      let piece : after_piece place n ≡ end = omega arith in
       let token = λ (l : ℕ) (k : ℕ). (let t : Token = record { kind = kind; line = l; start = place; end = k; value = value } in t) in
       let first = ap (λ k. token (line_of text place) k) piece ∙ ap (λ l. token l end) (sym at.2) in
       let e' : whole ≡ token_then (token line end) (tokens_at text end) =
-      here (Finds kind n value) is ∙ ap (λ k. token_then (token (line_of text place) (behind_piece place n)) (tokens_at text k)) piece ∙ ap (λ (t : Token). token_then t (tokens_at text end)) first in
+      here (Finds kind n value) is ∙ ap (λ k. token_then (token (line_of text place) (after_piece place n)) (tokens_at text k)) piece ∙ ap (λ (t : Token). token_then t (tokens_at text end)) first in
       subst (λ (tokens : Tokens). Gives tokens (Ok (Some (token line end))) (tokens_at text end)) (sym e') (refl, refl)
 
 -- ---- white space, one byte at a time
@@ -128,7 +128,7 @@ module _ (text : List ℕ) (place : ℕ) where
     by : (t : Bool) → is_space (get_or (drop place text) 0 0) ≡ t → tokens_at text (place + n) ≡ tokens_at text place
     by true is =
         let some = one_space (drop place text) is in
-        let piece : place + n ≡ behind_piece place n = omega (arith, some.0) in
+        let piece : place + n ≡ after_piece place n = omega (arith, some.0) in
         ap (tokens_at text) piece ∙ sym (tokens_step text place ∙ ap (with_front text place (tokens_at text)) (space_front (is_fresh text place) (drop place text) is))
     by false is = let e : place + n ≡ place = omega (arith, no_space (drop place text) is) in ap (tokens_at text) e
 
@@ -143,17 +143,17 @@ space_skipped text place is =
     sym (spaces_skipped text (place + 1)) ∙ ap (tokens_at text) e ∙ spaces_skipped text place
 
 -- the byte at a place is the first of those after it
-pub byte_behind : (text : List ℕ) (place : ℕ) → get_or text place 0 ≡ get_or (drop place text) 0 0
-byte_behind text place =
+pub byte_after : (text : List ℕ) (place : ℕ) → get_or text place 0 ≡ get_or (drop place text) 0 0
+byte_after text place =
     let same : place + 0 ≡ place = omega arith in
     sym (get_or-drop place text 0 0 ∙ ap (λ k. get_or text k 0) same)
 
 -- the place after one byte
-pub place_behind_byte : (text : List ℕ) (place line b end line' : ℕ) (fresh fresh' : Bool) (bytes : List ℕ) → IsPlace text place line fresh → bytes ≡ drop place text → b ≡ get_or bytes 0 0 → 0 < length bytes → end ≡ place + 1 → line' ≡ line + (if b == 10 then 1 else 0) → fresh' ≡ with_byte fresh b → IsPlace text end line' fresh'
-place_behind_byte text place line b end line' fresh fresh' [] at rest is some ends lines freshes = absurd (omega arith)
-place_behind_byte text place line b end line' fresh fresh' (x ∷ bytes) at rest is some ends lines freshes =
+pub place_after_byte : (text : List ℕ) (place line b end line' : ℕ) (fresh fresh' : Bool) (bytes : List ℕ) → IsPlace text place line fresh → bytes ≡ drop place text → b ≡ get_or bytes 0 0 → 0 < length bytes → end ≡ place + 1 → line' ≡ line + (if b == 10 then 1 else 0) → fresh' ≡ with_byte fresh b → IsPlace text end line' fresh'
+place_after_byte text place line b end line' fresh fresh' [] at rest is some ends lines freshes = absurd (omega arith)
+place_after_byte text place line b end line' fresh fresh' (x ∷ bytes) at rest is some ends lines freshes =
     let one : count_by (λ y. y == 10) (x ∷ []) ≡ (if x == 10 then 1 else 0) = omega arith in
-    place_behind text place line 1 end line' fresh fresh' (x ∷ bytes) (x ∷ []) at rest refl (omega arith) ends (lines ∙ ap (λ y. line + (if y == 10 then 1 else 0)) is ∙ ap (λ m. line + m) (sym one)) (freshes ∙ ap (with_byte fresh) is)
+    place_after text place line 1 end line' fresh fresh' (x ∷ bytes) (x ∷ []) at rest refl (omega arith) ends (lines ∙ ap (λ y. line + (if y == 10 then 1 else 0)) is ∙ ap (λ m. line + m) (sym one)) (freshes ∙ ap (with_byte fresh) is)
 
 -- ---- the order of tokens
 
@@ -161,10 +161,10 @@ in_order_from : (text : List ℕ) (low high : ℕ) (tokens : List Token) → low
 in_order_from text low high [] h order = tt
 in_order_from text low high (token ∷ more) h order = (omega (arith, order.0), order.1, order.2, order.3)
 
-front_in_order : (text : List ℕ) (place : ℕ) (behind : ℕ → Tokens) → ((n : ℕ) → AreInOrder text (behind_piece place n) (behind (behind_piece place n)).0) → (front : Front) → LiesWithin front (length (drop place text)) → AreInOrder text place (with_front text place behind front).0
+front_in_order : (text : List ℕ) (place : ℕ) (behind : ℕ → Tokens) → ((n : ℕ) → AreInOrder text (after_piece place n) (behind (after_piece place n)).0) → (front : Front) → LiesWithin front (length (drop place text)) → AreInOrder text place (with_front text place behind front).0
 unfolding with_front
 front_in_order text place behind rest Nothing inside = tt
-front_in_order text place behind rest (Skips n) inside = in_order_from text place (behind_piece place n) _ (omega arith) (rest n)
+front_in_order text place behind rest (Skips n) inside = in_order_from text place (after_piece place n) _ (omega arith) (rest n)
 front_in_order text place behind rest (Finds kind n value) inside =
     let left = length-drop place text in
     let some = inside.0 in
@@ -176,7 +176,7 @@ in_order : (k : ℕ) (text : List ℕ) (place : ℕ) → AreInOrder text place (
 unfolding tokens_from
 in_order zero text place = tt
 in_order (suc k) text place =
-    front_in_order text place (tokens_from k text) (λ n. in_order k text (behind_piece place n)) (front_at (is_fresh text place) (drop place text)) (front_within (is_fresh text place) (drop place text))
+    front_in_order text place (tokens_from k text) (λ n. in_order k text (after_piece place n)) (front_at (is_fresh text place) (drop place text)) (front_within (is_fresh text place) (drop place text))
 
 -- the tokens of a text are in their order
 pub tokens_of-order : (text : List ℕ) → AreInOrder text 0 (tokens_of text).0

@@ -15,7 +15,7 @@ use Rattle.lg_lex.specs.Escapes.{character_at, string_at}
 use Rattle.lg_lex.specs.Expressions.{expression_at}
 use Rattle.lg_lex.specs.Fronts.{LiesWithin, dollar_at, expression_token, front_at, literal_token, mark_at, marked_at, marker_at, string_token, token_at, word_at, word_len}
 use Rattle.lg_lex.specs.Numbers.{number_at}
-use Rattle.lg_lex.specs.Tokens.{Tokens, behind_piece, is_fresh, tokens_at, tokens_from, with_front}
+use Rattle.lg_lex.specs.Tokens.{Tokens, after_piece, is_fresh, tokens_at, tokens_from, with_front}
 use Rattle.lg_lex.specs.declared.token.Token.{Token}
 use Rattle.lg_lex.specs.declared.token.TokenKind.{TokenKind}
 use Rattle.lg_lex.specs.declared.token.TokenKind.TheVariants.{Directive, Register, Number, Character, Name, Host}
@@ -81,12 +81,12 @@ word_inside text place some =
     ⊎_elim (λ (lt : place + 1 < length text). lt) (λ (le : length text ≤ place + 1). absurd (some (ap word_len (drop-drop 1 place text ∙ drop_all (place + 1) text le) ∙ no_word)))
     (cases_lt (place + 1) (length text))
 
-module _ (text : List ℕ) (place k : ℕ) (inside : place < length text) (rest : (n : ℕ) → (0 < n) × (n ≤ length (drop place text)) → Good text (tokens_from k text (behind_piece place n))) where
+module _ (text : List ℕ) (place k : ℕ) (inside : place < length text) (rest : (n : ℕ) → (0 < n) × (n ≤ length (drop place text)) → Good text (tokens_from k text (after_piece place n))) where
   -- a token, and those after it
   token_good : (kind : TokenKind) (line n value : ℕ) → (0 < n) × (n ≤ length (drop place text)) → IsWordToken kind text place (place + n)
-      → All (IsGood text) ((record { kind = kind; line = line; start = place; end = behind_piece place n; value = value }) ∷ (tokens_from k text (behind_piece place n)).0)
+      → All (IsGood text) ((record { kind = kind; line = line; start = place; end = after_piece place n; value = value }) ∷ (tokens_from k text (after_piece place n)).0)
   token_good kind line n value within good =
-      let is : place + n ≡ behind_piece place n = omega (arith, within.0) in
+      let is : place + n ≡ after_piece place n = omega (arith, within.0) in
       let P : ℕ → Type 0 = λ end. IsWordToken kind text place end in
       All-cons (IsGood text) _ _ (subst P is good) (rest n within)
 
@@ -190,7 +190,7 @@ good_from : (k : ℕ) (text : List ℕ) (place : ℕ) → Good text (tokens_from
 unfolding tokens_from
 good_from zero text place = All-nil (IsGood text)
 good_from (suc k) text place =
-    ⊎_elim (λ (lt : place < length text). front_good text place k lt (λ n within. good_from k text (behind_piece place n)) (front_within (is_fresh text place) (drop place text)))
+    ⊎_elim (λ (lt : place < length text). front_good text place k lt (λ n within. good_from k text (after_piece place n)) (front_within (is_fresh text place) (drop place text)))
     (λ (le : length text ≤ place). at_end text place k le) (cases_lt place (length text))
 
 pub words_whole : WordsAreWhole

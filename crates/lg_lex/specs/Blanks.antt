@@ -22,10 +22,10 @@ unfoldable pub blank_at : List ℕ → Option ℕ
 blank_at bytes = if is_space (slice_index bytes 0) then Some (prefix_len is_space bytes) else comment_at bytes
 
 -- the place after the white space and the comments from a place on; at most this many of them
-unfoldable pub behind_most_blanks : ℕ → List ℕ → ℕ → ℕ
-behind_most_blanks zero bytes place = place
-behind_most_blanks (suc k) bytes place = option_map_or (λ n. behind_most_blanks k bytes (place + n)) (blank_at (drop place bytes)) place
+unfoldable pub after_most_blanks : ℕ → List ℕ → ℕ → ℕ
+after_most_blanks zero bytes place = place
+after_most_blanks (suc k) bytes place = option_map_or (λ n. after_most_blanks k bytes (place + n)) (blank_at (drop place bytes)) place
 
 -- the place after all white space and comments from a place on; an unfinished comment is none
-unfoldable pub behind_blanks : List ℕ → ℕ → ℕ
-behind_blanks bytes place = behind_most_blanks (suc (length bytes)) bytes place
+unfoldable pub after_blanks : List ℕ → ℕ → ℕ
+after_blanks bytes place = after_most_blanks (suc (length bytes)) bytes place

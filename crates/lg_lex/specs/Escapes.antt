@@ -25,21 +25,21 @@ digits_escape radix most bytes = let n = prefix_len (λ b. is_digit b radix) (ta
     if n == 0 then None else option_map (λ byte. record { len = n; byte = byte }) (byte_value radix (take n bytes))
 
 -- the same byte with n bytes more in front
-abbrev pub behind_mark : ℕ → TextByte → TextByte
-behind_mark n found = record { len = n + found.len; byte = found.byte }
+abbrev pub after_mark : ℕ → TextByte → TextByte
+after_mark n found = record { len = n + found.len; byte = found.byte }
 
 -- an escape, from the byte after \ on: up to three octal digits, x and up to two hexadecimal digits, or a letter
 unfoldable pub escape_at : List ℕ → Option TextByte
 escape_at bytes = let b = slice_index bytes 0 in
     if is_digit b 8 then digits_escape 8 3 bytes
-    else (if b == 120 then option_map (behind_mark 1) (digits_escape 16 2 (drop 1 bytes))
+    else (if b == 120 then option_map (after_mark 1) (digits_escape 16 2 (drop 1 bytes))
     else option_map (λ byte. record { len = 1; byte = byte }) (letter_escape b))
 
 -- one byte or one escape; a line feed is neither
 unfoldable pub text_byte_at : List ℕ → Option TextByte
 text_byte_at bytes = let b = slice_index bytes 0 in
     if length bytes == 0 then None
-    else (if b == 92 then option_map (behind_mark 1) (escape_at (drop 1 bytes))
+    else (if b == 92 then option_map (after_mark 1) (escape_at (drop 1 bytes))
     else (if b == 10 then None else Some (record { len = 1; byte = b })))
 
 -- the end of a character: the closing quote after its byte

@@ -2,7 +2,7 @@
 -- Places are those of a list of bytes, and each part that is read ends after the blanks that follow it.
 use Rattle.std.specs.Prelude.{ℕ, zero, suc, ◌+◌, max, nat_le, ◌==◌, if◌then◌else◌, ℤ, List, length, drop, slice_index, Option, Some, None, option_map, option_and_then}
 use Rattle.std.specs.Int.{w64, cast_signed}
-use Rattle.lg_lex.specs.Blanks.{behind_blanks}
+use Rattle.lg_lex.specs.Blanks.{after_blanks}
 use Rattle.lg_lex.specs.Escapes.{character_at}
 use Rattle.lg_lex.specs.Numbers.{unsigned_at}
 use Rattle.lg_lex.specs.Operators.{level_of, double_symbol, single_symbol, sign_symbol, is_zero, binary_value, unary_value}
@@ -14,8 +14,8 @@ use Rattle.lg_lex.specs.declared.expressions.Reading.{Reading}
 -- ---- the parts of an expression
 
 -- after one byte at a place, and the blanks that follow it
-unfoldable pub behind_byte : List ℕ → ℕ → ℕ → Option ℕ
-behind_byte bytes b place = if slice_index bytes place == b then Some (behind_blanks bytes (place + 1)) else None
+unfoldable pub after_byte : List ℕ → ℕ → ℕ → Option ℕ
+after_byte bytes b place = if slice_index bytes place == b then Some (after_blanks bytes (place + 1)) else None
 
 abbrev pub or_single : ℕ → Option Operator → Option (Operator × ℕ)
 or_single a (Some operator) = Some (operator, 2)
@@ -26,7 +26,7 @@ unfoldable pub symbol_at : List ℕ → ℕ → Option (Operator × ℕ)
 symbol_at bytes place = or_single (slice_index bytes place) (double_symbol (slice_index bytes place) (slice_index bytes (place + 1)))
 
 abbrev pub in_level : List ℕ → ℕ → ℕ → Operator × ℕ → Option (Operator × ℕ)
-in_level bytes level place found = if level_of found.0 == level then Some (found.0, behind_blanks bytes (place + found.1)) else None
+in_level bytes level place found = if level_of found.0 == level then Some (found.0, after_blanks bytes (place + found.1)) else None
 
 -- the operator at a place, where it is one of a level, with the place after it
 unfoldable pub operator_at : List ℕ → ℕ → ℕ → Option (Operator × ℕ)
@@ -34,7 +34,7 @@ operator_at bytes level place = option_and_then (in_level bytes level place) (sy
 
 -- the sign at a place, with the place after it
 unfoldable pub sign_at : List ℕ → ℕ → Option (Sign × ℕ)
-sign_at bytes place = option_map (λ sign. (sign, behind_blanks bytes (place + 1))) (sign_symbol (slice_index bytes place))
+sign_at bytes place = option_map (λ sign. (sign, after_blanks bytes (place + 1))) (sign_symbol (slice_index bytes place))
 
 -- a number without a sign, or a character
 unfoldable pub literal_at : List ℕ → Option Literal
@@ -47,7 +47,7 @@ Reader = ℕ → Option Reading
 
 abbrev pub constant : List ℕ → ℕ → Literal → Reading
 constant bytes place literal =
-    record { value = cast_signed w64 literal.value; levels = 0; end = behind_blanks bytes (place + literal.len) }
+    record { value = cast_signed w64 literal.value; levels = 0; end = after_blanks bytes (place + literal.len) }
 
 unfoldable pub constant_at : List ℕ → Reader
 constant_at bytes place = option_map (constant bytes place) (literal_at (drop place bytes))
@@ -60,12 +60,12 @@ enclosed inner end = record { value = inner.value; levels = 1 + inner.levels; en
 
 -- an expression in parentheses, from its ) on
 unfoldable pub closed : List ℕ → Reading → Option Reading
-closed bytes inner = option_map (enclosed inner) (behind_byte bytes 41 inner.end)
+closed bytes inner = option_map (enclosed inner) (after_byte bytes 41 inner.end)
 
 unfoldable pub unary_by : List ℕ → Reader → Reader → ℕ → Option (Sign × ℕ) → Option Reading
 unary_by bytes unary whole place (Some found) = option_map (signed found.0) (unary found.1)
 unary_by bytes unary whole place None =
-    if slice_index bytes place == 40 then option_and_then (closed bytes) (whole (behind_blanks bytes (place + 1)))
+    if slice_index bytes place == 40 then option_and_then (closed bytes) (whole (after_blanks bytes (place + 1)))
     else constant_at bytes place
 
 -- a sign and its operand, an expression in parentheses, a number or a character
@@ -102,13 +102,13 @@ chosen most test first second = let levels = 1 + max test.levels (max first.leve
 unfoldable pub chosen_by : List ℕ → Reader → ℕ → Reading → Option ℕ → Option Reading
 chosen_by bytes inner most test None = Some test
 chosen_by bytes inner most test (Some next) = option_and_then
-    (λ first. option_and_then (λ after. option_and_then (chosen most test first) (inner after)) (behind_byte bytes 58 first.end))
+    (λ first. option_and_then (λ after. option_and_then (chosen most test first) (inner after)) (after_byte bytes 58 first.end))
     (inner next)
 
 -- operators, and where a ? follows a conditional
 unfoldable pub whole_of : List ℕ → Reader → Reader → ℕ → Reader
 whole_of bytes unary inner most place =
-    option_and_then (λ test. chosen_by bytes inner most test (behind_byte bytes 63 test.end)) (binary_of bytes unary 10 place)
+    option_and_then (λ test. chosen_by bytes inner most test (after_byte bytes 63 test.end)) (binary_of bytes unary 10 place)
 
 -- ---- levels
 
@@ -141,4 +141,4 @@ ended bytes read = if slice_index bytes read.end == 41 then Some read else None
 
 -- the expression of a token that begins with $( : it has at most 64 levels and is followed by )
 unfoldable pub expression_at : List ℕ → Option Reading
-expression_at bytes = option_and_then (ended bytes) (whole_at bytes 64 (behind_blanks bytes 2))
+expression_at bytes = option_and_then (ended bytes) (whole_at bytes 64 (after_blanks bytes 2))

@@ -25,15 +25,15 @@ abbrev pub token_then : Token → Tokens → Tokens
 token_then token tokens = (token ∷ tokens.0, tokens.1)
 
 -- each piece has at least a byte
-abbrev pub behind_piece : ℕ → ℕ → ℕ
-behind_piece place n = place + max 1 n
+abbrev pub after_piece : ℕ → ℕ → ℕ
+after_piece place n = place + max 1 n
 
 unfoldable pub with_front : List ℕ → ℕ → (ℕ → Tokens) → Front → Tokens
 with_front text place behind Nothing = ([], None)
-with_front text place behind (Skips n) = behind (behind_piece place n)
+with_front text place behind (Skips n) = behind (after_piece place n)
 with_front text place behind (Finds kind n value) = token_then
-    (record { kind = kind; line = line_of text place; start = place; end = behind_piece place n; value = value })
-    (behind (behind_piece place n))
+    (record { kind = kind; line = line_of text place; start = place; end = after_piece place n; value = value })
+    (behind (after_piece place n))
 with_front text place behind (Fails kind) = ([], Some (record { kind = kind; line = line_of text place }))
 
 -- the tokens from a place on, in at most this many pieces

@@ -1,7 +1,7 @@
 // White space and comments.
 
 ghost use Rattle.std.specs.Prelude.{◌≡◌, ◌<◌, ◌≤◌, length, slice_index, IfSome};
-ghost use Rattle.lg_lex.specs.Blanks.{block_rest, comment_at, blank_at, behind_blanks};
+ghost use Rattle.lg_lex.specs.Blanks.{block_rest, comment_at, blank_at, after_blanks};
 
 use crate::bytes::{behind, byte_at, closes_block, is_space, line_len, space_len};
 
@@ -62,9 +62,9 @@ pub(crate) fn blank(bytes: &[u8]) -> Option<usize>
 }
 
 /// Returns the place after the white space and the comments from a place on.
-pub(crate) fn behind_blanks(bytes: &[u8], place: usize) -> usize
+pub(crate) fn after_blanks(bytes: &[u8], place: usize) -> usize
     requires { place ≤ length bytes.now }
-    ensures value { result ≡ behind_blanks bytes.now place }
+    ensures value { result ≡ after_blanks bytes.now place }
     ensures from { place ≤ result }
     ensures inside { result ≤ length bytes.now }
 {

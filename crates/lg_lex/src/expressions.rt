@@ -1,9 +1,9 @@
 // Constant expressions: C's operators with C's precedence, on signed values of 64 bits that wrap.
 
 ghost use Rattle.std.specs.Prelude.{◌≡◌, ◌+◌, ◌<◌, ◌≤◌, ◌^◌, max, length, Some, IfSome};
-ghost use Rattle.lg_lex.specs.Expressions.{behind_byte, symbol_at, operator_at, sign_at, literal_at, constant_at, signed, closed, combined, chosen, inner_unary, inner_whole, unary_at, binary_of, chosen_by, whole_at, expression_at};
+ghost use Rattle.lg_lex.specs.Expressions.{after_byte, symbol_at, operator_at, sign_at, literal_at, constant_at, signed, closed, combined, chosen, inner_unary, inner_whole, unary_at, binary_of, chosen_by, whole_at, expression_at};
 
-use crate::blanks::behind_blanks;
+use crate::blanks::after_blanks;
 use crate::bytes::{behind, byte_at};
 use crate::escapes::character;
 use crate::numbers::{Literal, unsigned};
@@ -21,14 +21,14 @@ pub(crate) struct Reading {
 }
 
 // Returns the place after one byte and the blanks that follow it.
-#[tactic(auto, unfolding(crate::specs::Expressions::behind_byte))]
-fn behind_byte(bytes: &[u8], b: u8, place: usize) -> Option<usize>
+#[tactic(auto, unfolding(crate::specs::Expressions::after_byte))]
+fn after_byte(bytes: &[u8], b: u8, place: usize) -> Option<usize>
     requires mark { 0 < b }
-    ensures value { result ≡ behind_byte bytes.now b place }
+    ensures value { result ≡ after_byte bytes.now b place }
     ensures inside { IfSome result (λ next. (place < next) × (next ≤ length bytes.now)) }
 {
     if byte_at(bytes, place) == b {
-        Some(behind_blanks(bytes, place + 1))
+        Some(after_blanks(bytes, place + 1))
     } else {
         None
     }
@@ -59,7 +59,7 @@ fn operator(bytes: &[u8], level: u32, place: usize) -> Option<(Operator, usize)>
 {
     let (operator, len) = symbol(bytes, place)?;
     if operator.level() == level {
-        Some((operator, behind_blanks(bytes, place + len)))
+        Some((operator, after_blanks(bytes, place + len)))
     } else {
         None
     }
@@ -73,7 +73,7 @@ fn sign(bytes: &[u8], place: usize) -> Option<(Sign, usize)>
     ensures inside { IfSome result (λ found. (place < found.1) × (found.1 ≤ length bytes.now)) }
 {
     let sign = Sign::by_symbol(byte_at(bytes, place))?;
-    Some((sign, behind_blanks(bytes, place + 1)))
+    Some((sign, after_blanks(bytes, place + 1)))
 }
 
 // A number without a sign, or a character.
@@ -101,7 +101,7 @@ fn constant(bytes: &[u8], place: usize) -> Option<Reading>
     Some(Reading {
         value: found.value.cast_signed(),
         levels: 0,
-        end: behind_blanks(bytes, place + found.len),
+        end: after_blanks(bytes, place + found.len),
     })
 }
 
@@ -125,7 +125,7 @@ fn closed(bytes: &[u8], inner: Reading) -> Option<Reading>
     ensures later { IfSome result (λ read. (inner.end < read.end) × (read.end ≤ length bytes.now)) }
     ensures low { IfSome result (λ read. read.levels ≡ 1 + inner.levels) }
 {
-    let end = behind_byte(bytes, b')', inner.end)?;
+    let end = after_byte(bytes, b')', inner.end)?;
     Some(Reading {
         value: inner.value,
         levels: 1 + inner.levels,
@@ -193,7 +193,7 @@ fn unary(bytes: &[u8], place: usize, levels: u32) -> Option<Reading>
             Some(signed(sign, operand))
         }
         None if byte_at(bytes, place) == b'(' => {
-            let inner = inner_whole(bytes, behind_blanks(bytes, place + 1), levels)?;
+            let inner = inner_whole(bytes, after_blanks(bytes, place + 1), levels)?;
             closed(bytes, inner)
         }
         None => constant(bytes, place),
@@ -265,7 +265,7 @@ fn conditional(bytes: &[u8], test: Reading, next: usize, levels: u32) -> Option<
     ensures low { IfSome result (λ read. read.levels ≤ levels) }
 {
     let first = inner_whole(bytes, next, levels)?;
-    let after = behind_byte(bytes, b':', first.end)?;
+    let after = after_byte(bytes, b':', first.end)?;
     let second = inner_whole(bytes, after, levels)?;
     chosen(levels, test, first, second)
 }
@@ -281,7 +281,7 @@ fn whole(bytes: &[u8], place: usize, levels: u32) -> Option<Reading>
     ensures low { IfSome result (λ read. read.levels ≤ levels) }
 {
     let test = binary(bytes, place, levels, 10)?;
-    match behind_byte(bytes, b'?', test.end) {
+    match after_byte(bytes, b'?', test.end) {
         Some(next) => conditional(bytes, test, next, levels),
         None => Some(test),
     }
@@ -294,7 +294,7 @@ pub(crate) fn expression(bytes: &[u8]) -> Option<Reading>
     ensures value { result ≡ expression_at bytes.now }
     ensures inside { IfSome result (λ read. (2 < read.end) × (read.end < length bytes.now)) }
 {
-    let read = whole(bytes, behind_blanks(bytes, 2), MOST_LEVELS)?;
+    let read = whole(bytes, after_blanks(bytes, 2), MOST_LEVELS)?;
     if byte_at(bytes, read.end) == b')' {
         Some(read)
     } else {

@@ -39,7 +39,7 @@ pub(crate) fn passed(place: Place, bytes: &[u8]) -> Place
         if *b == b'\n' {
             line += 1;
         }
-        fresh = is_fresh_behind(fresh, *b);
+        fresh = is_fresh_after(fresh, *b);
     }
     Place {
         offset: place.offset + bytes.len(),
@@ -94,12 +94,12 @@ pub(crate) fn pass_byte(place: &mut Place, b: u8)
     place.offset += 1;
     if b != b' ' {
         place.line += u32::from(b == b'\n');
-        place.fresh = is_fresh_behind(place.fresh, b);
+        place.fresh = is_fresh_after(place.fresh, b);
     }
 }
 
 // Returns whether only spaces and tabs are before in the line, after one more byte.
-fn is_fresh_behind(fresh: bool, b: u8) -> bool
+fn is_fresh_after(fresh: bool, b: u8) -> bool
     ensures { result ≡ with_byte fresh b }
 {
     b == b'\n' || (fresh && (b == b' ' || b == b'\t'))

@@ -2,7 +2,7 @@
 
 ghost use Rattle.std.specs.Prelude.{◌≡◌, ◌<◌, ◌≤◌, ◌+◌, ◌*◌, ◌^◌, ◌++◌, codes, length};
 ghost use Rattle.lg_list.specs.Texts.{decimal, signed_decimal, displacement, hex};
-ghost use Rattle.lg_list.specs.Operands.{register_name, x86_name, spelled, spelled_behind, listed, text};
+ghost use Rattle.lg_list.specs.Operands.{register_name, x86_name, spelled, spelled_after, listed, text};
 
 use crate::line::Line;
 
@@ -149,7 +149,7 @@ impl Line {
 
     // Appends an operand after what is before it.
     #[inline(always)]
-    fn push_behind(&mut self, before: &[u8], operand: Operand)
+    fn push_after(&mut self, before: &[u8], operand: Operand)
         requires before { length before.now ≤ 2 }
         requires room { length self.old + 51 ≤ 288 }
         ensures value { self.new ≡ self.old ++ before.now ++ spelled operand }
@@ -163,13 +163,13 @@ impl Line {
     fn push_operands(&mut self, before: &[u8], operands: &[Operand])
         requires before { length before.now ≤ 2 }
         requires room { length self.old + 51 * length operands.now ≤ 288 }
-        ensures value { self.new ≡ self.old ++ spelled_behind before.now operands.now }
+        ensures value { self.new ≡ self.old ++ spelled_after before.now operands.now }
         ensures room { length self.new ≤ length self.old + 51 * length operands.now }
     {
         match operands {
             [] => {}
             [operand, operands @ ..] => {
-                self.push_behind(before, *operand);
+                self.push_after(before, *operand);
                 self.push_operands(b", ", operands);
             }
         }
@@ -179,15 +179,15 @@ impl Line {
     #[inline(always)]
     fn push_more(&mut self, operands: &[Operand])
         requires room { length self.old + 51 * length operands.now ≤ 288 }
-        ensures value { self.new ≡ self.old ++ spelled_behind (codes ", ") operands.now }
+        ensures value { self.new ≡ self.old ++ spelled_after (codes ", ") operands.now }
         ensures room { length self.new ≤ length self.old + 51 * length operands.now }
     {
         match operands {
             [] => {}
-            [operand] => self.push_behind(b", ", *operand),
+            [operand] => self.push_after(b", ", *operand),
             [operand, last] => {
-                self.push_behind(b", ", *operand);
-                self.push_behind(b", ", *last);
+                self.push_after(b", ", *operand);
+                self.push_after(b", ", *last);
             }
             _ => self.push_operands(b", ", operands),
         }
@@ -205,7 +205,7 @@ impl Line {
         match operands {
             [] => {}
             [operand, operands @ ..] => {
-                self.push_behind(b" ", *operand);
+                self.push_after(b" ", *operand);
                 self.push_more(operands);
             }
         }

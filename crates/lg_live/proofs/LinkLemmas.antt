@@ -12,9 +12,9 @@ use Rattle.lg_node.specs.Functions.{home}
 use Rattle.lg_node.specs.Shapes.{TextShape, IsSuccessor, IsTakenIn, IsTarget, IsNext, GoesBy, Way, Next, Jump, Either, Taken, Leave, way_of, target_of}
 use Rattle.lg_live.specs.RegSets.{has}
 use Rattle.lg_live.specs.declared.point.Point.{Point}
-use Rattle.lg_live.specs.Graphs.{point_at, no_point, IsArc, falls, jumps, joins, IsWanted, IsWantedBehind, AreWithin}
+use Rattle.lg_live.specs.Graphs.{point_at, no_point, IsArc, falls, jumps, joins, IsWanted, IsWantedAfter, AreWithin}
 use Rattle.lg_live.specs.Graphs as graph
-use Rattle.lg_live.specs.Needs.{IsNeededBy, IsNeededBehind}
+use Rattle.lg_live.specs.Needs.{IsNeededBy, IsNeededAfter}
 use Rattle.lg_live.specs.Needs as need
 use Rattle.lg_live.specs.Uses.{is_read}
 use Rattle.lg_live.specs.Points.{falls_by, aims_by, gathers_by, node_within, gate, gate_of, join_of, IsTakenAt, IsPoint, ArePoints}
@@ -90,7 +90,7 @@ module _ (feeding : Op → Bool) (l : LabelledNodes) (s : TextShape) (points : L
   point_here i n h = are.each i n (point_at points i) h (slice_get-get_or points i no_point (let lt = slice_get_within l.nodes i n h in omega (arith, lt, are.count)))
 
   -- ---- what is required is needed
-  gate_case : (r : Reg) (i k : ℕ) (n : Node) → slice_get l.nodes i ≡ Some n → IsMeant feeding l s r k → (b : Bool) → gathers_by (way_of n.op) ≡ b → (o : Option ℕ) → home l.nodes i ≡ o → gate_of l b o ≡ Some k → IsNeededBehind feeding l s r i
+  gate_case : (r : Reg) (i k : ℕ) (n : Node) → slice_get l.nodes i ≡ Some n → IsMeant feeding l s r k → (b : Bool) → gathers_by (way_of n.op) ≡ b → (o : Option ℕ) → home l.nodes i ≡ o → gate_of l b o ≡ Some k → IsNeededAfter feeding l s r i
   gate_case r i k n h m b g None e f = absurd (cc)
   gate_case r i k n h m false g (Some p) e f = absurd (cc)
   gate_case r i k n h m true g (Some p) e f =
@@ -101,25 +101,25 @@ module _ (feeding : Op → Bool) (l : LabelledNodes) (s : TextShape) (points : L
         needed = t.needed;
       }
 
-  jump_case : (r : Reg) (i k : ℕ) (n : Node) → slice_get l.nodes i ≡ Some n → IsMeant feeding l s r k → (b : Bool) → aims_by (way_of n.op) ≡ b → (if b then node_within (length l.nodes) (target_of l.places n.operands) else gate_of l (gathers_by (way_of n.op)) (home l.nodes i)) ≡ Some k → IsNeededBehind feeding l s r i
+  jump_case : (r : Reg) (i k : ℕ) (n : Node) → slice_get l.nodes i ≡ Some n → IsMeant feeding l s r k → (b : Bool) → aims_by (way_of n.op) ≡ b → (if b then node_within (length l.nodes) (target_of l.places n.operands) else gate_of l (gathers_by (way_of n.op)) (home l.nodes i)) ≡ Some k → IsNeededAfter feeding l s r i
   jump_case r i k n h m true a e =
       let target : IsTarget l n k = node_of_within (length l.nodes) k (target_of l.places n.operands) e in
       record { next = k; successor = record { node = n; here = h; goes = goes_jump l s i k n (way_of n.op) a target }; needed = m.node (below_of_within (length l.nodes) k (target_of l.places n.operands) e) }
   jump_case r i k n h m false a e = gate_case r i k n h m (gathers_by (way_of n.op)) refl (home l.nodes i) refl e
 
-  jump_behind : (r : Reg) (i k : ℕ) (n : Node) → slice_get l.nodes i ≡ Some n → IsMeant feeding l s r k → (point_at points i).jumps ≡ Some k → IsNeededBehind feeding l s r i
-  jump_behind r i k n h m e = jump_case r i k n h m (aims_by (way_of n.op)) refl (sym (point_here i n h).jumps ∙ e)
+  jump_after : (r : Reg) (i k : ℕ) (n : Node) → slice_get l.nodes i ≡ Some n → IsMeant feeding l s r k → (point_at points i).jumps ≡ Some k → IsNeededAfter feeding l s r i
+  jump_after r i k n h m e = jump_case r i k n h m (aims_by (way_of n.op)) refl (sym (point_here i n h).jumps ∙ e)
 
-  fall_behind : (r : Reg) (i k : ℕ) (n : Node) → slice_get l.nodes i ≡ Some n → IsMeant feeding l s r k → (point_at points i).falls ≡ true → k ≡ i + 1 → IsNeededBehind feeding l s r i
-  fall_behind r i k n h m e next =
+  fall_after : (r : Reg) (i k : ℕ) (n : Node) → slice_get l.nodes i ≡ Some n → IsMeant feeding l s r k → (point_at points i).falls ≡ true → k ≡ i + 1 → IsNeededAfter feeding l s r i
+  fall_after r i k n h m e next =
       let parts = and_parts (falls_by (way_of n.op)) (nat_lt (i + 1) (length l.nodes)) (sym (point_here i n h).falls ∙ e) in
       let lt : k < length l.nodes = (let b = lt_of_ltb (i + 1) (length l.nodes) parts.1 in omega (arith, b, next)) in
       record { next = k; successor = record { node = n; here = h; goes = goes_next l s i k n (way_of n.op) parts.0 (next, lt) }; needed = m.node lt }
 
-  kept_before : (r : Reg) (i : ℕ) (n : Node) → slice_get l.nodes i ≡ Some n → has (point_at points i).writes r ≡ false → IsNeededBehind feeding l s r i → IsNeededBy feeding l s r i
+  kept_before : (r : Reg) (i : ℕ) (n : Node) → slice_get l.nodes i ≡ Some n → has (point_at points i).writes r ≡ false → IsNeededAfter feeding l s r i → IsNeededBy feeding l s r i
   kept_before r i n h w b = need.kept_to r i b.next n h (sym ((point_here i n h).writes r) ∙ w) b.successor b.needed
 
-  fed_before : (r q : Reg) (i : ℕ) (n : Node) → slice_get l.nodes i ≡ Some n → has (point_at points i).feeds r ≡ true → has (point_at points i).writes q ≡ true → IsNeededBehind feeding l s q i → IsNeededBy feeding l s r i
+  fed_before : (r q : Reg) (i : ℕ) (n : Node) → slice_get l.nodes i ≡ Some n → has (point_at points i).feeds r ≡ true → has (point_at points i).writes q ≡ true → IsNeededAfter feeding l s q i → IsNeededBy feeding l s r i
   fed_before r q i n h f w b =
       let parts = and_parts (is_read n r) (feeding n.op) (sym ((point_here i n h).feeds r) ∙ f) in
       need.read_for r q i b.next n h parts.0 (sym ((point_here i n h).writes q) ∙ w) b.successor b.needed
@@ -163,20 +163,20 @@ module _ (feeding : Op → Bool) (l : LabelledNodes) (s : TextShape) (points : L
     gates = λ p g. absurd (past_reads_none points i r (omega (arith, g, are.count)) e);
   }
   meant r i (graph.read_for r1 q j k f w (falls a b e d) m) = record {
-    node = λ lt. let n = there_is l.nodes i lt in fed_before r q i n.0 n.1 f w (fall_behind q i k n.0 n.1 (meant q k m) e d);
+    node = λ lt. let n = there_is l.nodes i lt in fed_before r q i n.0 n.1 f w (fall_after q i k n.0 n.1 (meant q k m) e d);
     gates = λ p g. absurd (feeds_past points i r (omega (arith, g, are.count)) f);
   }
   meant r i (graph.read_for r1 q j k f w (jumps a b e) m) = record {
-    node = λ lt. let n = there_is l.nodes i lt in fed_before r q i n.0 n.1 f w (jump_behind q i k n.0 n.1 (meant q k m) e);
+    node = λ lt. let n = there_is l.nodes i lt in fed_before r q i n.0 n.1 f w (jump_after q i k n.0 n.1 (meant q k m) e);
     gates = λ p g. absurd (feeds_past points i r (omega (arith, g, are.count)) f);
   }
   meant r i (graph.read_for r1 q j k f w (joins a b e) m) = absurd (feeds_past points i r (omega (arith, join_high i k e, are.count)) f)
   meant r i (graph.kept_to r1 j k w (falls a b e f) m) = record {
-    node = λ lt. let n = there_is l.nodes i lt in kept_before r i n.0 n.1 w (fall_behind r i k n.0 n.1 (meant r k m) e f);
+    node = λ lt. let n = there_is l.nodes i lt in kept_before r i n.0 n.1 w (fall_after r i k n.0 n.1 (meant r k m) e f);
     gates = λ p g. absurd (falls_past points i (omega (arith, g, are.count)) e);
   }
   meant r i (graph.kept_to r1 j k w (jumps a b e) m) = record {
-    node = λ lt. let n = there_is l.nodes i lt in kept_before r i n.0 n.1 w (jump_behind r i k n.0 n.1 (meant r k m) e);
+    node = λ lt. let n = there_is l.nodes i lt in kept_before r i n.0 n.1 w (jump_after r i k n.0 n.1 (meant r k m) e);
     gates = λ p g. absurd (jumps_past points i k (omega (arith, g, are.count)) e);
   }
   meant r i (graph.kept_to r1 j k w (joins a b e) m) =
@@ -190,14 +190,14 @@ module _ (feeding : Op → Bool) (l : LabelledNodes) (s : TextShape) (points : L
 
   -- ---- what is needed is required
   module _ (r : Reg) (i k : ℕ) (n : Node) (h : slice_get l.nodes i ≡ Some n) (lt : k < length l.nodes) (d : IsWanted points r k) where
-    falls_on : (w : Way) → way_of n.op ≡ w → falls_by w ≡ true → IsNext l i k → IsWantedBehind points r i
+    falls_on : (w : Way) → way_of n.op ≡ w → falls_by w ≡ true → IsNext l i k → IsWantedAfter points r i
     falls_on w e f g = record {
       next = k;
       way = inl ((point_here i n h).falls ∙ ap (λ x. falls_by x && nat_lt (i + 1) (length l.nodes)) e ∙ ap (λ b. b && nat_lt (i + 1) (length l.nodes)) f ∙ ltb_of_lt (i + 1) (length l.nodes) (omega (arith, g.0, g.1)), g.0);
       needed = d;
     }
 
-    jumps_on : (w : Way) → way_of n.op ≡ w → aims_by w ≡ true → IsTarget l n k → IsWantedBehind points r i
+    jumps_on : (w : Way) → way_of n.op ≡ w → aims_by w ≡ true → IsTarget l n k → IsWantedAfter points r i
     jumps_on w e f g = record {
       next = k;
       way = inr ((point_here i n h).jumps ∙ ap (λ x. if aims_by x then node_within (length l.nodes) (target_of l.places n.operands) else gate_of l (gathers_by x) (home l.nodes i)) e
@@ -206,7 +206,7 @@ module _ (feeding : Op → Bool) (l : LabelledNodes) (s : TextShape) (points : L
       needed = d;
     }
 
-    taken_on : way_of n.op ≡ Taken → IsTakenIn l s i k → IsWantedBehind points r i
+    taken_on : way_of n.op ≡ Taken → IsTakenIn l s i k → IsWantedAfter points r i
     taken_on e t =
         let m = there_is l.nodes k lt in
         let pt = point_here k m.0 m.1 in
@@ -219,43 +219,43 @@ module _ (feeding : Op → Bool) (l : LabelledNodes) (s : TextShape) (points : L
           needed = graph.kept_to r (gate l t.function) k (writes_past points (gate l t.function) r (omega (arith, are.count))) (joins (gate l t.function) k join) d;
         }
 
-    way_on : (w : Way) → way_of n.op ≡ w → GoesBy l s i n w k → IsWantedBehind points r i
+    way_on : (w : Way) → way_of n.op ≡ w → GoesBy l s i n w k → IsWantedAfter points r i
     way_on Next e g = falls_on Next e refl g
     way_on Jump e g = jumps_on Jump e refl g
     way_on Either e g = ⊎_elim (λ (t : IsTarget l n k). jumps_on Either e refl t) (λ (t : IsNext l i k). falls_on Either e refl t) g
     way_on Taken e g = taken_on e g
     way_on Leave e g = absurd g
 
-  pub needed_behind : (r : Reg) (i k : ℕ) → IsSuccessor l s i k → k < length l.nodes → IsWanted points r k → IsWantedBehind points r i
-  needed_behind r i k t lt d = way_on r i k t.node t.here lt d (way_of t.node.op) refl t.goes
+  pub needed_after : (r : Reg) (i k : ℕ) → IsSuccessor l s i k → k < length l.nodes → IsWanted points r k → IsWantedAfter points r i
+  needed_after r i k t lt d = way_on r i k t.node t.here lt d (way_of t.node.op) refl t.goes
 
-  arc_behind : (r : Reg) (i : ℕ) (b : IsWantedBehind points r i) → IsArc points i b.next
-  arc_behind r i b = ⊎_elim (λ (h : ((point_at points i).falls ≡ true) × (b.next ≡ i + 1)). falls i b.next h.0 h.1) (λ (h : (point_at points i).jumps ≡ Some b.next). jumps i b.next h) b.way
+  arc_after : (r : Reg) (i : ℕ) (b : IsWantedAfter points r i) → IsArc points i b.next
+  arc_after r i b = ⊎_elim (λ (h : ((point_at points i).falls ≡ true) × (b.next ≡ i + 1)). falls i b.next h.0 h.1) (λ (h : (point_at points i).jumps ≡ Some b.next). jumps i b.next h) b.way
 
   pub wanted : (r : Reg) (i : ℕ) → IsNeededBy feeding l s r i → IsWanted points r i
   wanted r i (need.read_here r1 j n h e d) = graph.read_here r i ((point_here i n h).reads r ∙ ap (λ b. b && not (feeding n.op)) e ∙ ap not d)
-  wanted r i (need.read_for r1 q j k n h f w t v) = by (feeding n.op) refl (needed_behind q i k t (within feeding l s q k v) (wanted q k v))
+  wanted r i (need.read_for r1 q j k n h f w t v) = by (feeding n.op) refl (needed_after q i k t (within feeding l s q k v) (wanted q k v))
     where
-      by : (b : Bool) → feeding n.op ≡ b → IsWantedBehind points q i → IsWanted points r i
+      by : (b : Bool) → feeding n.op ≡ b → IsWantedAfter points q i → IsWanted points r i
       by false d x = graph.read_here r i ((point_here i n h).reads r ∙ ap (λ c. c && not (feeding n.op)) f ∙ ap not d)
-      by true d x = graph.read_for r q i x.next ((point_here i n h).feeds r ∙ ap (λ c. c && feeding n.op) f ∙ d) ((point_here i n h).writes q ∙ w) (arc_behind q i x) x.needed
+      by true d x = graph.read_for r q i x.next ((point_here i n h).feeds r ∙ ap (λ c. c && feeding n.op) f ∙ d) ((point_here i n h).writes q ∙ w) (arc_after q i x) x.needed
   wanted r i (need.kept_to r1 j k n h w t v) =
-      let b = needed_behind r i k t (within feeding l s r k v) (wanted r k v) in
-      graph.kept_to r i b.next ((point_here i n h).writes r ∙ w) (arc_behind r i b) b.needed
+      let b = needed_after r i k t (within feeding l s r k v) (wanted r k v) in
+      graph.kept_to r i b.next ((point_here i n h).writes r ∙ w) (arc_after r i b) b.needed
 
   -- ---- both
   pub needed_is : (r : Reg) (i : ℕ) → i < length l.nodes → IsWanted points r i ↔ IsNeededBy feeding l s r i
   needed_is r i lt = ((λ d. (meant r i d).node lt), wanted r i)
 
-  pub needed_behind_is : (r : Reg) (i : ℕ) → i < length l.nodes → IsWantedBehind points r i ↔ IsNeededBehind feeding l s r i
-  needed_behind_is r i lt = (
+  pub needed_after_is : (r : Reg) (i : ℕ) → i < length l.nodes → IsWantedAfter points r i ↔ IsNeededAfter feeding l s r i
+  needed_after_is r i lt = (
     (λ b.
         let n = there_is l.nodes i lt in
         ⊎_elim
-        (λ (h : ((point_at points i).falls ≡ true) × (b.next ≡ i + 1)). fall_behind r i b.next n.0 n.1 (meant r b.next b.needed) h.0 h.1)
-        (λ (h : (point_at points i).jumps ≡ Some b.next). jump_behind r i b.next n.0 n.1 (meant r b.next b.needed) h)
+        (λ (h : ((point_at points i).falls ≡ true) × (b.next ≡ i + 1)). fall_after r i b.next n.0 n.1 (meant r b.next b.needed) h.0 h.1)
+        (λ (h : (point_at points i).jumps ≡ Some b.next). jump_after r i b.next n.0 n.1 (meant r b.next b.needed) h)
         b.way),
-    (λ v. needed_behind r i v.next v.successor (within feeding l s r v.next v.needed) (wanted r v.next v.needed)),
+    (λ v. needed_after r i v.next v.successor (within feeding l s r v.next v.needed) (wanted r v.next v.needed)),
   )
 
   -- ---- all points are below twice the number of nodes

@@ -14,13 +14,13 @@ use Rattle.lg_live.specs.declared.reg_set.RegSet.{RegSet}
 use Rattle.lg_live.specs.declared.definitions.Sought.TheVariants as sought
 use Rattle.lg_live.specs.declared.point.Point.{Point}
 use Rattle.lg_live.specs.Definitions.{feeding}
-use Rattle.lg_live.specs.Graphs.{set_at, IsWantedBehind, AreWanted}
-use Rattle.lg_live.specs.Liveness.{IsLive, IsLiveBehind, AreLive}
+use Rattle.lg_live.specs.Graphs.{set_at, IsWantedAfter, AreWanted}
+use Rattle.lg_live.specs.Liveness.{IsLive, IsLiveAfter, AreLive}
 use Rattle.lg_live.specs.Liveness as live
-use Rattle.lg_live.specs.Needs.{IsNeededBy, IsNeededBehind, AreNeeded}
+use Rattle.lg_live.specs.Needs.{IsNeededBy, IsNeededAfter, AreNeeded}
 use Rattle.lg_live.specs.Needs as need
 use Rattle.lg_live.specs.Points.{ArePoints}
-use Rattle.lg_live.proofs.LinkLemmas.{needed_is, needed_behind_is}
+use Rattle.lg_live.proofs.LinkLemmas.{needed_is, needed_after_is}
 use Rattle.lg_live.proofs.SearchLemmas.{zero_set, get_pushed}
 
 -- what is needed where no operation reads only for what it writes is what is live
@@ -33,22 +33,22 @@ needed_of : (l : LabelledNodes) (s : TextShape) (r : Reg) (i : ℕ) → IsLive l
 needed_of l s r i (live.read_here j n h e) = need.read_here r i n h e refl
 needed_of l s r i (live.kept_to j k n h w t v) = need.kept_to r i k n h w t (needed_of l s r k v)
 
-live_behind_of : (l : LabelledNodes) (s : TextShape) (r : Reg) (i : ℕ) → IsNeededBehind (feeding sought.Live) l s r i ↔ IsLiveBehind l s r i
-live_behind_of l s r i = (
+live_after_of : (l : LabelledNodes) (s : TextShape) (r : Reg) (i : ℕ) → IsNeededAfter (feeding sought.Live) l s r i ↔ IsLiveAfter l s r i
+live_after_of l s r i = (
   (λ b. record { next = b.next; successor = b.successor; live = live_of l s r b.next b.needed }),
   (λ b. record { next = b.next; successor = b.successor; needed = needed_of l s r b.next b.live }),
 )
 
 abbrev pub IsBehind : List Point → RegSet → ℕ → Type 0
-IsBehind points set i = (r : Reg) → (has set r ≡ true) ↔ IsWantedBehind points r i
+IsBehind points set i = (r : Reg) → (has set r ≡ true) ↔ IsWantedAfter points r i
 
 -- the sets after the first points
-pub record AreBehind (points : List Point) (sets : List RegSet) (count : ℕ) : Type 0 where
+pub record AreAfter (points : List Point) (sets : List RegSet) (count : ℕ) : Type 0 where
   pub many : length sets ≡ count
   pub each : (i : ℕ) (set : RegSet) → slice_get sets i ≡ Some set → IsBehind points set i
 
-pub behind_more : (points : List Point) (sets more : List RegSet) (count : ℕ) (set : RegSet) → AreBehind points sets count → IsBehind points set count → more ≡ sets ++ set ∷ [] → AreBehind points more (count + 1)
-behind_more points sets more count set a is e = rw e record {
+pub after_more : (points : List Point) (sets more : List RegSet) (count : ℕ) (set : RegSet) → AreAfter points sets count → IsBehind points set count → more ≡ sets ++ set ∷ [] → AreAfter points more (count + 1)
+after_more points sets more count set a is e = rw e record {
   many = omega (arith, length-append sets (set ∷ []), a.many);
   each = λ i found b.
       ⊎_elim
@@ -84,17 +84,17 @@ all_needed l s points count sets before are wanted twice e =
     let b = all_before (feeding sought.Needed) l s points count sets before are wanted twice e in
     record { count = b.count; exact = λ i set h r. b.exact i set h r }
 
-pub all_live : (l : LabelledNodes) (s : TextShape) (points : List Point) (count : ℕ) (sets before behind : List RegSet) → ArePoints (feeding sought.Live) l s points → AreWanted points count sets → count ≡ 2 * length l.nodes → before ≡ take (length points) sets → AreBehind points behind (length points) → AreLive l s record { before = before; behind = behind }
+pub all_live : (l : LabelledNodes) (s : TextShape) (points : List Point) (count : ℕ) (sets before behind : List RegSet) → ArePoints (feeding sought.Live) l s points → AreWanted points count sets → count ≡ 2 * length l.nodes → before ≡ take (length points) sets → AreAfter points behind (length points) → AreLive l s record { before = before; behind = behind }
 all_live l s points count sets before behind are wanted twice e b =
     let a = all_before (feeding sought.Live) l s points count sets before are wanted twice e in
     record {
       before_count = a.count;
-      behind_count = b.many ∙ are.count;
+      after_count = b.many ∙ are.count;
       before = λ i set h r. let is = a.exact i set h r in ((λ f. live_of l s r i (is.0 f)), (λ v. is.1 (needed_of l s r i v)));
       behind = λ i set h r.
           let lt = slice_get_within behind i set h in
-          let is = needed_behind_is (feeding sought.Live) l s points are r i (omega (arith, b.many, are.count, lt)) in
+          let is = needed_after_is (feeding sought.Live) l s points are r i (omega (arith, b.many, are.count, lt)) in
           let at = b.each i set h r in
-          let of = live_behind_of l s r i in
+          let of = live_after_of l s r i in
           ((λ f. of.0 (is.0 (at.0 f))), (λ v. at.1 (is.1 (of.1 v))));
     }

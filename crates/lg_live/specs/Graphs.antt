@@ -52,7 +52,7 @@ pub record AreWanted (points : List Point) (count : ℕ) (sets : List RegSet) : 
   pub complete : (i : ℕ) (r : Reg) → IsWanted points r i → has (set_at sets i) r ≡ true
 
 -- a register is required at a point to which one leads by falling or jumping
-pub record IsWantedBehind (points : List Point) (r : Reg) (i : ℕ) : Type 0 where
+pub record IsWantedAfter (points : List Point) (r : Reg) (i : ℕ) : Type 0 where
   pub next : ℕ
   pub way : (((point_at points i).falls ≡ true) × (next ≡ i + 1)) ⊎ ((point_at points i).jumps ≡ Some next)
   pub needed : IsWanted points r next

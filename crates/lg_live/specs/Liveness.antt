@@ -14,7 +14,7 @@ pub data IsLive (l : LabelledNodes) (s : TextShape) (r : Reg) : ℕ → Type 0 w
   kept_to : (i k : ℕ) (n : Node) → slice_get l.nodes i ≡ Some n → is_written n r ≡ false → IsSuccessor l s i k → IsLive l s r k → IsLive l s r i
 
 -- it is live after a node where it is live before some successor
-pub record IsLiveBehind (l : LabelledNodes) (s : TextShape) (r : Reg) (i : ℕ) : Type 0 where
+pub record IsLiveAfter (l : LabelledNodes) (s : TextShape) (r : Reg) (i : ℕ) : Type 0 where
   pub next : ℕ
   pub successor : IsSuccessor l s i next
   pub live : IsLive l s r next
@@ -27,6 +27,6 @@ pub record LiveSets : Type 0 where
 -- they are those of the registers that are live
 pub record AreLive (l : LabelledNodes) (s : TextShape) (sets : LiveSets) : Type 0 where
   pub before_count : length sets.before ≡ length l.nodes
-  pub behind_count : length sets.behind ≡ length l.nodes
+  pub after_count : length sets.behind ≡ length l.nodes
   pub before : (i : ℕ) (set : RegSet) → slice_get sets.before i ≡ Some set → (r : Reg) → (has set r ≡ true) ↔ IsLive l s r i
-  pub behind : (i : ℕ) (set : RegSet) → slice_get sets.behind i ≡ Some set → (r : Reg) → (has set r ≡ true) ↔ IsLiveBehind l s r i
+  pub behind : (i : ℕ) (set : RegSet) → slice_get sets.behind i ≡ Some set → (r : Reg) → (has set r ≡ true) ↔ IsLiveAfter l s r i

@@ -24,7 +24,7 @@ abbrev pub IsNeeded : LabelledNodes → TextShape → Reg → ℕ → Type 0
 IsNeeded l s r i = IsNeededBy defines l s r i
 
 -- it is needed after a node where it is needed before some successor
-pub record IsNeededBehind (feeding : Op → Bool) (l : LabelledNodes) (s : TextShape) (r : Reg) (i : ℕ) : Type 0 where
+pub record IsNeededAfter (feeding : Op → Bool) (l : LabelledNodes) (s : TextShape) (r : Reg) (i : ℕ) : Type 0 where
   pub next : ℕ
   pub successor : IsSuccessor l s i next
   pub needed : IsNeededBy feeding l s r next

@@ -4,7 +4,7 @@ ghost use Rattle.std.specs.Prelude.{◌≡◌, ◌↔◌, ◌<◌, ◌≤◌, tr
 ghost use Rattle.lg_op.specs.declared.operand.Reg.{Reg};
 ghost use Rattle.lg_live.specs.RegSets.{has};
 ghost use Rattle.lg_node.specs.Shapes.{IsShapeOf};
-ghost use Rattle.lg_live.specs.Graphs.{AreWithin, AreWanted, IsWantedBehind};
+ghost use Rattle.lg_live.specs.Graphs.{AreWithin, AreWanted, IsWantedAfter};
 ghost use Rattle.lg_live.specs.Liveness.{AreLive};
 
 use crate::definitions::Sought;
@@ -38,7 +38,7 @@ fn behind(points: &[Point], sets: &[RegSet], index: usize) -> RegSet
     requires point { index < length points.now }
     requires within { AreWithin points.now (length sets.now) }
     requires wanted { AreWanted points.now (length sets.now) sets.now }
-    ensures { (r : Reg) → (has result r ≡ true) ↔ IsWantedBehind points.now r index }
+    ensures { (r : Reg) → (has result r ≡ true) ↔ IsWantedAfter points.now r index }
 {
     let next = if falls(points, index) {
         sets[index + 1]

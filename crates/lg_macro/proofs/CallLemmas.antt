@@ -6,7 +6,7 @@ use Rattle.std.specs.List.{prefix_len}
 use Rattle.lg_macro.specs.Pieces.{Piece, piece_at, no_piece, is_white, is_byte, between}
 use Rattle.lg_macro.specs.declared.pieces.PieceKind.{PieceKind}
 use Rattle.lg_lex.specs.Bytes.{further}
-use Rattle.lg_macro.specs.Arguments.{opening, closing, depth_behind, in_argument, gathered, solid_by, solid_len, stripped, with_feeds, with_feed}
+use Rattle.lg_macro.specs.Arguments.{opening, closing, depth_after, in_argument, gathered, solid_by, solid_len, stripped, with_feeds, with_feed}
 
 -- the pieces from a place on are the one there and those after it
 pub drop_piece : (pieces : List Piece) (at : ℕ) → at < length pieces → drop at pieces ≡ piece_at pieces at ∷ drop (at + 1) pieces
@@ -51,7 +51,7 @@ closing_end : (depth : ℕ) (p : Piece) (rest : List Piece) → (is_byte 41 p.ki
 unfolding closing
 closing_end depth p rest test = rw test refl
 
-closing_on : (depth : ℕ) (p : Piece) (rest : List Piece) → (is_byte 41 p.kind && (depth == 0)) ≡ false → closing depth (p ∷ rest) ≡ further 1 (closing (depth_behind depth p.kind) rest)
+closing_on : (depth : ℕ) (p : Piece) (rest : List Piece) → (is_byte 41 p.kind && (depth == 0)) ≡ false → closing depth (p ∷ rest) ≡ further 1 (closing (depth_after depth p.kind) rest)
 unfolding closing
 closing_on depth p rest test = rw test refl
 
@@ -59,10 +59,10 @@ pub closing_here : (pieces : List Piece) (from n depth : ℕ) → closing 0 (dro
 closing_here pieces from n depth so_far h test =
     rw (so_far, drop_piece pieces (from + n) h, closing_end depth (piece_at pieces (from + n)) (drop (from + n + 1) pieces) test) (ap Some (let e : n ≡ n + 0 = omega arith in e))
 
-pub closing_more : (pieces : List Piece) (from n depth next : ℕ) → closing 0 (drop from pieces) ≡ further n (closing depth (drop (from + n) pieces)) → from + n < length pieces → (is_byte 41 (piece_at pieces (from + n)).kind && (depth == 0)) ≡ false → next ≡ depth_behind depth (piece_at pieces (from + n)).kind → closing 0 (drop from pieces) ≡ further (n + 1) (closing next (drop (from + (n + 1)) pieces))
+pub closing_more : (pieces : List Piece) (from n depth next : ℕ) → closing 0 (drop from pieces) ≡ further n (closing depth (drop (from + n) pieces)) → from + n < length pieces → (is_byte 41 (piece_at pieces (from + n)).kind && (depth == 0)) ≡ false → next ≡ depth_after depth (piece_at pieces (from + n)).kind → closing 0 (drop from pieces) ≡ further (n + 1) (closing next (drop (from + (n + 1)) pieces))
 closing_more pieces from n depth next so_far h test is =
     let e : from + (n + 1) ≡ from + n + 1 = omega arith in
-    rw (so_far, drop_piece pieces (from + n) h, closing_on depth (piece_at pieces (from + n)) (drop (from + n + 1) pieces) test, e, is) (further_more n (closing (depth_behind depth (piece_at pieces (from + n)).kind) (drop (from + n + 1) pieces)))
+    rw (so_far, drop_piece pieces (from + n) h, closing_on depth (piece_at pieces (from + n)) (drop (from + n + 1) pieces) test, e, is) (further_more n (closing (depth_after depth (piece_at pieces (from + n)).kind) (drop (from + n + 1) pieces)))
 
 pub closing_none : (pieces : List Piece) (from n depth : ℕ) → closing 0 (drop from pieces) ≡ further n (closing depth (drop (from + n) pieces)) → length pieces ≤ from + n → None ≡ closing 0 (drop from pieces)
 unfolding closing
@@ -73,7 +73,7 @@ depth_by depth true b = omega arith
 depth_by depth false true = omega arith
 depth_by depth false false = omega arith
 
-pub depth_low : (depth n next : ℕ) (kind : PieceKind) → depth ≤ n → next ≡ depth_behind depth kind → next ≤ n + 1
+pub depth_low : (depth n next : ℕ) (kind : PieceKind) → depth ≤ n → next ≡ depth_after depth kind → next ≤ n + 1
 depth_low depth n next kind h is = let by = depth_by depth (is_byte 40 kind) (is_byte 41 kind) in omega (arith, is, by)
 
 -- ---- pieces between two places
@@ -94,7 +94,7 @@ pub gathered_comma : (line depth at end : ℕ) (done : List (List Piece)) (now p
 unfolding gathered
 gathered_comma line depth at end done now pieces h inside test = rw (between_cons at end pieces h inside, test) refl
 
-pub gathered_piece : (line depth at end : ℕ) (done : List (List Piece)) (now pieces : List Piece) → at < end → end ≤ length pieces → (is_byte 44 (piece_at pieces at).kind && (depth == 0)) ≡ false → gathered line (depth_behind depth (piece_at pieces at).kind) done (now ++ in_argument line (piece_at pieces at) ∷ []) (between (at + 1) end pieces) ≡ gathered line depth done now (between at end pieces)
+pub gathered_piece : (line depth at end : ℕ) (done : List (List Piece)) (now pieces : List Piece) → at < end → end ≤ length pieces → (is_byte 44 (piece_at pieces at).kind && (depth == 0)) ≡ false → gathered line (depth_after depth (piece_at pieces at).kind) done (now ++ in_argument line (piece_at pieces at) ∷ []) (between (at + 1) end pieces) ≡ gathered line depth done now (between at end pieces)
 unfolding gathered
 gathered_piece line depth at end done now pieces h inside test = rw (between_cons at end pieces h inside, test) refl
 
@@ -105,7 +105,7 @@ gathered_end line depth at end done now pieces h = rw (between_end at end pieces
 pub next_comma : (line depth depth2 at end : ℕ) (done done2 : List (List Piece)) (argument now now2 pieces : List Piece) → at < end → end ≤ length pieces → (is_byte 44 (piece_at pieces at).kind && (depth == 0)) ≡ true → depth2 ≡ depth → done2 ≡ done ++ argument ∷ [] → argument ≡ stripped now → now2 ≡ [] → gathered line depth2 done2 now2 (between (at + 1) end pieces) ≡ gathered line depth done now (between at end pieces)
 next_comma line depth depth2 at end done done2 argument now now2 pieces h inside test e1 e2 e3 e4 = rw (e1, e2, e3, e4) (gathered_comma line depth at end done now pieces h inside test)
 
-pub next_piece : (line depth depth2 at end : ℕ) (done done2 : List (List Piece)) (now now2 pieces : List Piece) → at < end → end ≤ length pieces → (is_byte 44 (piece_at pieces at).kind && (depth == 0)) ≡ false → depth2 ≡ depth_behind depth (piece_at pieces at).kind → done2 ≡ done → now2 ≡ now ++ in_argument line (piece_at pieces at) ∷ [] → gathered line depth2 done2 now2 (between (at + 1) end pieces) ≡ gathered line depth done now (between at end pieces)
+pub next_piece : (line depth depth2 at end : ℕ) (done done2 : List (List Piece)) (now now2 pieces : List Piece) → at < end → end ≤ length pieces → (is_byte 44 (piece_at pieces at).kind && (depth == 0)) ≡ false → depth2 ≡ depth_after depth (piece_at pieces at).kind → done2 ≡ done → now2 ≡ now ++ in_argument line (piece_at pieces at) ∷ [] → gathered line depth2 done2 now2 (between (at + 1) end pieces) ≡ gathered line depth done now (between at end pieces)
 next_piece line depth depth2 at end done done2 now now2 pieces h inside test e1 e2 e3 = rw (e1, e2, e3) (gathered_piece line depth at end done now pieces h inside test)
 
 -- ---- white space at the ends

@@ -4,7 +4,7 @@ use Rattle.std.proofs.lemmas.Bool.{false≢true, true≢false, eqb-true}
 use Rattle.std.proofs.lemmas.List.{take-append-drop, drop-drop}
 use Rattle.std.proofs.lemmas.List.Sums.{sum_by-append, sum_by-cons}
 use Rattle.std.specs.List.{prefix_len}
-use Rattle.lg_macro.specs.Arguments.{feed, with_feed, with_feeds_of, with_feeds, in_argument, solid_len, stripped, gathered, depth_behind, is_empty_list, without_empty, arguments_of}
+use Rattle.lg_macro.specs.Arguments.{feed, with_feed, with_feeds_of, with_feeds, in_argument, solid_len, stripped, gathered, depth_after, is_empty_list, without_empty, arguments_of}
 use Rattle.lg_base.specs.WordBytes.{is_word_start, is_word_byte}
 use Rattle.lg_macro.specs.Cutting.{front_of, cut, cut_in, quoted_len, begins_comment, comment_len}
 use Rattle.lg_macro.specs.Defines.{spliced, spaced, first_is_feed}
@@ -213,9 +213,9 @@ gathered_quiet line depth done now (p ∷ rest) tidy hd hn =
     let more = among_append now (in_argument line p ∷ []) in
     either_all (is_byte 44 p.kind && (depth == 0))
     (gathered line depth (done ++ stripped now ∷ []) [] rest)
-    (gathered line (depth_behind depth p.kind) done (now ++ in_argument line p ∷ []) rest)
+    (gathered line (depth_after depth p.kind) done (now ++ in_argument line p ∷ []) rest)
     (gathered_quiet line depth (done ++ stripped now ∷ []) [] rest tidy.1 (omega (arith, all, few, hd, hn)) refl)
-    (gathered_quiet line (depth_behind depth p.kind) done (now ++ in_argument line p ∷ []) rest tidy.1 hd (omega (arith, more, one, hn)))
+    (gathered_quiet line (depth_after depth p.kind) done (now ++ in_argument line p ∷ []) rest tidy.1 hd (omega (arith, more, one, hn)))
 
 abbrev pub AreQuiet : Option (List (List Piece)) → Type 0
 AreQuiet None = Unit {0}

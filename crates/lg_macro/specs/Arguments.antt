@@ -12,13 +12,13 @@ opening [] = None
 opening (p ∷ rest) = if is_white p.kind then further 1 (opening rest) else (if is_byte 40 p.kind then Some 1 else None)
 
 -- the open parentheses after a piece
-abbrev pub depth_behind : ℕ → PieceKind → ℕ
-depth_behind depth kind = if is_byte 40 kind then depth + 1 else (if is_byte 41 kind then depth - 1 else depth)
+abbrev pub depth_after : ℕ → PieceKind → ℕ
+depth_after depth kind = if is_byte 40 kind then depth + 1 else (if is_byte 41 kind then depth - 1 else depth)
 
 -- the pieces before the ) that closes the call, where this many parentheses are open besides
 unfoldable pub closing : ℕ → List Piece → Option ℕ
 closing depth [] = None
-closing depth (p ∷ rest) = if is_byte 41 p.kind && (depth == 0) then Some 0 else further 1 (closing (depth_behind depth p.kind) rest)
+closing depth (p ∷ rest) = if is_byte 41 p.kind && (depth == 0) then Some 0 else further 1 (closing (depth_after depth p.kind) rest)
 
 -- a piece of an argument: a comment or a line feed is a space, and its line is that of the call
 abbrev pub in_argument : ℕ → Piece → Piece
@@ -42,7 +42,7 @@ unfoldable pub gathered : ℕ → ℕ → List (List Piece) → List Piece → L
 gathered line depth done now [] = done ++ stripped now ∷ []
 gathered line depth done now (p ∷ rest) =
     if is_byte 44 p.kind && (depth == 0) then gathered line depth (done ++ stripped now ∷ []) [] rest
-    else gathered line (depth_behind depth p.kind) done (now ++ in_argument line p ∷ []) rest
+    else gathered line (depth_after depth p.kind) done (now ++ in_argument line p ∷ []) rest
 
 -- one empty argument
 abbrev pub is_empty_list : List (List Piece) → Bool

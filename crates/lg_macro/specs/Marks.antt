@@ -2,10 +2,10 @@
 use Rattle.std.specs.Prelude.{◌-◌, true, List, [], ◌∷◌, ◌++◌, length, take, slice_get, Option, Some, None}
 use Rattle.lg_macro.specs.declared.macros.Mark.{Mark}
 
-abbrev pub glued_behind : List Mark → Option Mark → List Mark
-glued_behind marks None = marks
-glued_behind marks (Some m) = take (length marks - 1) marks ++ record { parameter = m.parameter; glued = m.glued; glues = true } ∷ []
+abbrev pub glued_after : List Mark → Option Mark → List Mark
+glued_after marks None = marks
+glued_after marks (Some m) = take (length marks - 1) marks ++ record { parameter = m.parameter; glued = m.glued; glues = true } ∷ []
 
 -- marks whose last one says that ## is after
 abbrev pub glue_last : List Mark → List Mark
-glue_last marks = glued_behind marks (slice_get marks (length marks - 1))
+glue_last marks = glued_after marks (slice_get marks (length marks - 1))

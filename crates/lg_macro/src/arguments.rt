@@ -1,7 +1,7 @@
 // The calls of macros, and their arguments.
 
 ghost use Rattle.std.specs.Prelude.{◌≡◌, ◌+◌, ◌++◌, ◌∷◌, [], ◌<◌, ◌≤◌, length, take, drop, OnOk, IfSome, IfOk};
-ghost use Rattle.lg_macro.specs.Arguments.{opening, closing, depth_behind, in_argument, gathered, arguments_of, solid_len, stripped, is_empty_list, with_feeds, with_feed};
+ghost use Rattle.lg_macro.specs.Arguments.{opening, closing, depth_after, in_argument, gathered, arguments_of, solid_len, stripped, is_empty_list, with_feeds, with_feed};
 ghost use Rattle.std.specs.Prelude.{fold, option_map};
 ghost use Rattle.lg_macro.specs.Pieces.{between};
 ghost use Rattle.lg_macro.specs.Pieces.{piece_at, is_byte, is_white};
@@ -36,9 +36,9 @@ pub fn opening(pieces: &Pieces, from: usize) -> Option<usize>
 }
 
 // Returns the open parentheses after a piece.
-fn depth_behind(depth: usize, kind: PieceKind) -> usize
+fn depth_after(depth: usize, kind: PieceKind) -> usize
     requires { depth < 18446744073709551615 }
-    ensures { result ≡ depth_behind depth kind }
+    ensures { result ≡ depth_after depth kind }
 {
     if kind.is_byte(b'(') {
         depth + 1
@@ -70,7 +70,7 @@ pub fn closing(pieces: &Pieces, from: usize) -> Option<usize>
         if ends(kind, b')', depth) {
             return Some(n);
         }
-        depth = depth_behind(depth, kind);
+        depth = depth_after(depth, kind);
         n += 1;
     }
     None
@@ -162,7 +162,7 @@ pub(crate) fn gathered(
             push_stripped(&mut done, spare, now)?;
             now = spare.take();
         } else {
-            depth = depth_behind(depth, kind);
+            depth = depth_after(depth, kind);
             push_in(&mut now, pieces, at, line)?;
         }
     }

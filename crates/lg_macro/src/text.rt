@@ -19,7 +19,7 @@ fn feeds_of(text: &[u8]) -> usize
 }
 
 // Returns the line after a piece that begins on a line.
-fn line_behind(line: u32, piece: &[u8]) -> u32
+fn line_after(line: u32, piece: &[u8]) -> u32
     requires { line + length piece.now < 2 ^ 32 }
     ensures value { result ≡ line + feeds_of piece.now }
     ensures few { result ≤ line + length piece.now }
@@ -41,7 +41,7 @@ pub fn text_pieces(alloc: Global, text: &[u8]) -> Result<Pieces, OutOfMemory>
         let (kind, n) = front_of(rest);
         let piece = ahead(rest, n);
         out.push(kind, piece, line, false)?;
-        line = line_behind(line, piece);
+        line = line_after(line, piece);
         at += n;
     }
     Ok(out)

@@ -17,13 +17,13 @@ use Rattle.lg_mean.specs.declared.run.RunEnd.TheVariants as runs_end
 use Rattle.lg_mean.specs.Says.{Steps}
 use Rattle.lg_mean.specs.Portables.{counts, over_of}
 use Rattle.lg_mean.specs.Programs.{LabelTable}
-use Rattle.lg_mean.specs.Runs.{HasGoneOn, FailsToWrite, EndsBehind, IsUndefinedBehind, ComesTo}
+use Rattle.lg_mean.specs.Runs.{HasGoneOn, FailsToWrite, EndsAfter, IsUndefinedAfter, ComesTo}
 
 -- what an answer of a step says of a run that went on after k steps
 abbrev pub Then : (ℕ → Run) → ℕ → (line : State → ℕ) → MeanStep → State → (out out' : Option (List ℕ)) → (faults faults' : ℕ) → Type 0
 Then runs k line mean.Went s out out' faults faults' = HasGoneOn runs (k + 1) s out out'
-Then runs k line (mean.Ended status) s out out' faults faults' = HasGoneOn runs k s out out' × EndsBehind runs k status
-Then runs k line (mean.Undefined at) s out out' faults faults' = HasGoneOn runs k s out out' × IsUndefinedBehind runs k × (at ≡ line s)
+Then runs k line (mean.Ended status) s out out' faults faults' = HasGoneOn runs k s out out' × EndsAfter runs k status
+Then runs k line (mean.Undefined at) s out out' faults faults' = HasGoneOn runs k s out out' × IsUndefinedAfter runs k × (at ≡ line s)
 Then runs k line mean.WriteFault s out out' faults faults' = FailsToWrite runs k s out out' faults faults'
 
 -- after no step the meaning is at its start

@@ -11,10 +11,10 @@ use Rattle.lg_node.specs.Nodes.{LabelledNodes}
 use Rattle.lg_node.specs.Functions.{home, functions, IsFunction}
 use Rattle.lg_node.specs.Shapes.{TextShape}
 use Rattle.lg_node.specs.ShapeLaws.{HasFunctions}
-use Rattle.lg_meaning.specs.Steps.{Text, later, landing, last_landing, function_here, is_behind, begins, is_entry_label, is_target, jump_target}
+use Rattle.lg_meaning.specs.Steps.{Text, later, landing, last_landing, function_here, is_after, begins, is_entry_label, is_target, jump_target}
 use Rattle.lg_meaning.specs.Texts.{text}
 use Rattle.lg_meaning.proofs.FunctionFacts.{function_at_home, same_function, IsAt}
-use Rattle.lg_mean.specs.Programs.{pair_eq, is_jump_key, lands_in, jump_in, call_among, LeadsAmong, entry_behind, jump_entry}
+use Rattle.lg_mean.specs.Programs.{pair_eq, is_jump_key, lands_in, jump_in, call_among, LeadsAmong, entry_after, jump_entry}
 use Rattle.lg_mean.proofs.LandingLemmas.{last_landing-none, last_landing-next}
 
 -- a label that is bound at no node
@@ -63,10 +63,10 @@ module _ (l : LabelledNodes) (shape : TextShape) (A : List ℕ) (hf : HasFunctio
   here k g e = here_in k g (home l.nodes k) refl e
 
   -- ---- a label that is taken and bound after the `prolog` of a function
-  behind_none : (f : Function) → IsFunction l.nodes f → (k : ℕ) → function_here shape.functions k ≡ None → is_behind (Some f) k ≡ false
-  behind_none f i k e = by (is_behind (Some f) k) refl
+  after_none : (f : Function) → IsFunction l.nodes f → (k : ℕ) → function_here shape.functions k ≡ None → is_after (Some f) k ≡ false
+  after_none f i k e = by (is_after (Some f) k) refl
     where
-      by : (b : Bool) → is_behind (Some f) k ≡ b → is_behind (Some f) k ≡ false
+      by : (b : Bool) → is_after (Some f) k ≡ b → is_after (Some f) k ≡ false
       by false t = t
       by true t =
           let lt : f.entry < k = grind (arith, t) in
@@ -74,13 +74,13 @@ module _ (l : LabelledNodes) (shape : TextShape) (A : List ℕ) (hf : HasFunctio
           let x = function_at_home l shape hf fe k f.entry (i.all k (omega (arith, lt)) le) in
           absurd (none_some x.0 (sym e ∙ x.1.here))
 
-  behind_some : (f g : Function) → IsFunction l.nodes f → (k : ℕ) → IsHere l k g → is_behind (Some f) k ≡ is_entry f.entry (entry_behind (Some g) k)
-  behind_some f g i k x = by (nat_eq g.entry f.entry) refl (nat_lt g.entry k) refl
+  after_some : (f g : Function) → IsFunction l.nodes f → (k : ℕ) → IsHere l k g → is_after (Some f) k ≡ is_entry f.entry (entry_after (Some g) k)
+  after_some f g i k x = by (nat_eq g.entry f.entry) refl (nat_lt g.entry k) refl
     where
       to : f ≡ g → nat_le k f.last ≡ true
       to e = rw e (grind (arith, x.to))
 
-      by : (b : Bool) → nat_eq g.entry f.entry ≡ b → (c : Bool) → nat_lt g.entry k ≡ c → is_behind (Some f) k ≡ is_entry f.entry (if nat_lt g.entry k then Some g.entry else None)
+      by : (b : Bool) → nat_eq g.entry f.entry ≡ b → (c : Bool) → nat_lt g.entry k ≡ c → is_after (Some f) k ≡ is_entry f.entry (if nat_lt g.entry k then Some g.entry else None)
       by true e c t =
           let entry : f.entry ≡ g.entry = grind (arith, e) in
           let same : f ≡ g = same_function l f g i x.is entry in
@@ -90,13 +90,13 @@ module _ (l : LabelledNodes) (shape : TextShape) (A : List ℕ) (hf : HasFunctio
           last : (c : Bool) → nat_eq g.entry f.entry ≡ true → c && true ≡ is_entry f.entry (if c then Some g.entry else None)
           last true e = sym e
           last false e = refl
-      by false e c t = never (is_behind (Some f) k) refl ∙ sym (rw t (last c))
+      by false e c t = never (is_after (Some f) k) refl ∙ sym (rw t (last c))
         where
           last : (c : Bool) → is_entry f.entry (if c then Some g.entry else None) ≡ false
           last true = e
           last false = refl
 
-          never : (b : Bool) → is_behind (Some f) k ≡ b → is_behind (Some f) k ≡ false
+          never : (b : Bool) → is_after (Some f) k ≡ b → is_after (Some f) k ≡ false
           never false u = u
           never true u =
               let lt : f.entry < k = grind (arith, u) in
@@ -108,10 +108,10 @@ module _ (l : LabelledNodes) (shape : TextShape) (A : List ℕ) (hf : HasFunctio
   lands : (f : Function) → IsFunction l.nodes f → (label k : ℕ) → lands_in (text l shape A) f label k ≡ is_entry f.entry (jump_entry (text l shape A) label k)
   lands f i label k = by (slice_index_or shape.taken label false) (function_here shape.functions k) refl
     where
-      by : (taken : Bool) (o : Option Function) → function_here shape.functions k ≡ o → taken && is_behind (Some f) k ≡ is_entry f.entry (if taken then entry_behind (function_here shape.functions k) k else None)
+      by : (taken : Bool) (o : Option Function) → function_here shape.functions k ≡ o → taken && is_after (Some f) k ≡ is_entry f.entry (if taken then entry_after (function_here shape.functions k) k else None)
       by false o e = refl
-      by true None e = rw e (behind_none f i k e)
-      by true (Some g) e = rw e (behind_some f g i k (here k g e))
+      by true None e = rw e (after_none f i k e)
+      by true (Some g) e = rw e (after_some f g i k (here k g e))
 
   -- ---- one label more
   module _ (label k : ℕ) (bound : slice_get l.places label ≡ Some (Some (place.Node k))) where
@@ -147,7 +147,7 @@ module _ (l : LabelledNodes) (shape : TextShape) (A : List ℕ) (hf : HasFunctio
   -- ---- where a jump leads
   pub jumps_to : (at w : ℕ) (f : Function) (jumps : List ((ℕ × ℕ) × ℕ)) (calls : List (ℕ × ℕ)) → function_here shape.functions at ≡ Some f
       → LeadsAmong l (text l shape A) jumps calls (length l.places) → lookup (pair_eq (f.entry, w)) jumps ≡ jump_target (text l shape A) at w
-  jumps_to at w f jumps calls e leads = leads.jumped f (here at f e).is w ∙ sym (ap (λ (o : Option Function). last_landing (λ x k. slice_index_or shape.taken x false && is_behind o k) l.places A w (length l.places)) e)
+  jumps_to at w f jumps calls e leads = leads.jumped f (here at f e).is w ∙ sym (ap (λ (o : Option Function). last_landing (λ x k. slice_index_or shape.taken x false && is_after o k) l.places A w (length l.places)) e)
 
 -- ---- a word that leads nowhere
 module _ (test : ℕ → ℕ → Bool) (h : (l k : ℕ) → test l k ≡ false) (places : List (Option Place)) (A : List ℕ) (w : ℕ) where

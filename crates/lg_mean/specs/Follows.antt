@@ -12,18 +12,18 @@ use Rattle.lg_mean.specs.declared.mean_step.MeanStep.TheVariants as mean
 use Rattle.lg_mean.specs.Says.{Steps}
 
 -- the state of a run after a step with this answer
-abbrev pub status_behind : MeanStep → Status
-status_behind mean.Went = Running
-status_behind (mean.Ended status) = Ended status
-status_behind (mean.Undefined line) = Bad
-status_behind mean.WriteFault = Running
+abbrev pub status_after : MeanStep → Status
+status_after mean.Went = Running
+status_after (mean.Ended status) = Ended status
+status_after (mean.Undefined line) = Bad
+status_after mean.WriteFault = Running
 
 -- after an answer the meaning is at the machine's new state, and the machine has written what the meaning has written
 pub record IsBehind (l : LabelledNodes) (shape : TextShape) (addresses : List ℕ) (start : State) (k : ℕ) (answer : MeanStep) (new : State)
     (before out : List ℕ) (out' : Option (List ℕ)) : Type 0 where
   pub bytes : List ℕ
   pub ending : Option Ending
-  pub stands : mean_from l shape addresses start (k + 1) ≡ record { status = status_behind answer; state = new; out = out ++ bytes; ending = ending }
+  pub stands : mean_from l shape addresses start (k + 1) ≡ record { status = status_after answer; state = new; out = out ++ bytes; ending = ending }
   pub written : out' ≡ Some (before ++ (out ++ bytes))
 
 -- where a machine is in the state of the meaning after k steps, and a step of it meets no fault of its sink, it is in the state of the meaning after k + 1

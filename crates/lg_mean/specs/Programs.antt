@@ -6,7 +6,7 @@ use Rattle.lg_node.specs.declared.function.Function.{Function}
 use Rattle.lg_node.specs.Nodes.{LabelledNodes}
 use Rattle.lg_node.specs.Functions.{IsFunction}
 use Rattle.lg_node.specs.Shapes.{TextShape, IsShapeOf}
-use Rattle.lg_meaning.specs.Steps.{Text, last_landing, function_here, is_behind, is_entry_label}
+use Rattle.lg_meaning.specs.Steps.{Text, last_landing, function_here, is_after, is_entry_label}
 use Rattle.lg_meaning.specs.Texts.{text}
 use Rattle.lg_mean.specs.declared.resolved.ResolvedNode.{ResolvedNode}
 use Rattle.lg_mean.specs.Resolved.{IsResolved}
@@ -33,7 +33,7 @@ pair_eq x y = nat_eq x.0 y.0 && nat_eq x.1 y.1
 
 -- a taken label that is bound in a function after its `prolog`
 abbrev pub lands_in : Text → Function → ℕ → ℕ → Bool
-lands_in t f l k = slice_index_or t.taken l false && is_behind (Some f) k
+lands_in t f l k = slice_index_or t.taken l false && is_after (Some f) k
 
 -- the node to which `jmpr` goes in a function, among n labels
 abbrev pub jump_in : Text → Function → ℕ → ℕ → Option ℕ
@@ -62,13 +62,13 @@ pub record IsTableOf (l : LabelledNodes) (shape : TextShape) (labels : LabelTabl
 
 -- ---- how a label gets into them
 -- the `prolog` of a function to whose node a label is bound after it
-abbrev pub entry_behind : Option Function → ℕ → Option ℕ
-entry_behind None k = None
-entry_behind (Some f) k = if nat_lt f.entry k then Some f.entry else None
+abbrev pub entry_after : Option Function → ℕ → Option ℕ
+entry_after None k = None
+entry_after (Some f) k = if nat_lt f.entry k then Some f.entry else None
 
 -- the `prolog` of the function in which `jmpr` can go to a label that is bound at a node
 abbrev pub jump_entry : Text → ℕ → ℕ → Option ℕ
-jump_entry t l k = if slice_index_or t.taken l false then entry_behind (function_here t.functions k) k else None
+jump_entry t l k = if slice_index_or t.taken l false then entry_after (function_here t.functions k) k else None
 
 -- the place of the table in which such a label stands
 abbrev pub is_jump_key : Option ℕ → ℕ → ℕ × ℕ → Bool

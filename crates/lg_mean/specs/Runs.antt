@@ -31,30 +31,30 @@ pub record FailsToWrite (meaning : ℕ → Run) (n : ℕ) (s : State) (out out' 
   pub rose : Rose faults faults'
 
 -- the step after the first n ends the meaning with a status; it writes nothing, and the state stays
-abbrev pub EndsBehind : (ℕ → Run) → ℕ → ℕ → Type 0
-EndsBehind meaning n status = (e : Ending) × (ending_status e ≡ status) × (meaning (n + 1) ≡ record (meaning n) { status = Ended status; ending = Some e })
+abbrev pub EndsAfter : (ℕ → Run) → ℕ → ℕ → Type 0
+EndsAfter meaning n status = (e : Ending) × (ending_status e ≡ status) × (meaning (n + 1) ≡ record (meaning n) { status = Ended status; ending = Some e })
 
 -- the step after the first n is undefined
-abbrev pub IsUndefinedBehind : (ℕ → Run) → ℕ → Type 0
-IsUndefinedBehind meaning n = meaning (n + 1) ≡ record (meaning n) { status = Bad }
+abbrev pub IsUndefinedAfter : (ℕ → Run) → ℕ → Type 0
+IsUndefinedAfter meaning n = meaning (n + 1) ≡ record (meaning n) { status = Bad }
 
 -- where a run of at most this many steps is after n steps, at a state whose node has a line
 abbrev pub ComesTo : (ℕ → Run) → RunEnd → (n most : ℕ) → State → (line : ℕ) → (out out' : Option (List ℕ)) → (faults faults' : ℕ) → Type 0
 ComesTo meaning (runs_end.Ended status) n most s line out out' faults faults' = (n ≤ most)
-    × ((k : ℕ) × (n ≡ k + 1) × HasGoneOn meaning k s out out' × EndsBehind meaning k status)
-ComesTo meaning (runs_end.Undefined at) n most s line out out' faults faults' = (n < most) × HasGoneOn meaning n s out out' × IsUndefinedBehind meaning n
+    × ((k : ℕ) × (n ≡ k + 1) × HasGoneOn meaning k s out out' × EndsAfter meaning k status)
+ComesTo meaning (runs_end.Undefined at) n most s line out out' faults faults' = (n < most) × HasGoneOn meaning n s out out' × IsUndefinedAfter meaning n
     × (at ≡ line)
 ComesTo meaning runs_end.StepsOut n most s line out out' faults faults' = (n ≡ most) × HasGoneOn meaning n s out out'
 ComesTo meaning runs_end.WriteFault n most s line out out' faults faults' = (n < most) × FailsToWrite meaning n s out out' faults faults'
 
 -- the sink's count of faults stays, but where a write failed
-abbrev pub KeepsCountBehind : RunEnd → (faults faults' : ℕ) → Type 0
-KeepsCountBehind runs_end.WriteFault faults faults' = ⊤
-KeepsCountBehind answer faults faults' = faults' ≡ faults
+abbrev pub KeepsCountAfter : RunEnd → (faults faults' : ℕ) → Type 0
+KeepsCountAfter runs_end.WriteFault faults faults' = ⊤
+KeepsCountAfter answer faults faults' = faults' ≡ faults
 
 -- the answer that steps after a run repeat
-abbrev pub over_behind : RunEnd → Option MeanStep
-over_behind (runs_end.Ended status) = Some (mean.Ended status)
-over_behind (runs_end.Undefined line) = Some (mean.Undefined line)
-over_behind runs_end.StepsOut = None
-over_behind runs_end.WriteFault = Some mean.WriteFault
+abbrev pub over_after : RunEnd → Option MeanStep
+over_after (runs_end.Ended status) = Some (mean.Ended status)
+over_after (runs_end.Undefined line) = Some (mean.Undefined line)
+over_after runs_end.StepsOut = None
+over_after runs_end.WriteFault = Some mean.WriteFault

@@ -7,7 +7,7 @@ ghost use Rattle.lg_node.specs.Shapes.{IsShapeOf};
 ghost use Rattle.lg_node.specs.declared.place.Place.TheVariants as place;
 ghost use Rattle.lg_meaning.specs.Steps.{later, begins, function_here};
 ghost use Rattle.lg_meaning.specs.Texts.{text};
-ghost use Rattle.lg_mean.specs.Programs.{pair_eq, is_jump_key, jump_entry, entry_behind, LeadsAmong, AreResolved, IsTableOf};
+ghost use Rattle.lg_mean.specs.Programs.{pair_eq, is_jump_key, jump_entry, entry_after, LeadsAmong, AreResolved, IsTableOf};
 
 use crate::functions::{begins, function_here};
 use crate::resolved::{ResolvedNode, resolved};
@@ -81,8 +81,8 @@ fn note_call(
 }
 
 // Returns the `prolog` of a function, where a node of it is after that.
-fn entry_behind(function: Option<Function>, node: u32) -> Option<u32>
-    ensures { result ≡ entry_behind function node }
+fn entry_after(function: Option<Function>, node: u32) -> Option<u32>
+    ensures { result ≡ entry_after function node }
 {
     match function {
         Some(function) if function.entry < node => Some(function.entry),
@@ -101,7 +101,7 @@ fn jump_entry(
     ensures { result ≡ jump_entry (text nodes.now shape.now addresses.now) label node }
 {
     if shape.taken(Label(label)) {
-        entry_behind(function_here(shape, node), node)
+        entry_after(function_here(shape, node), node)
     } else {
         None
     }

@@ -6,7 +6,7 @@ ghost use Rattle.lg_meaning.specs.Means.{mean_from};
 ghost use Rattle.lg_meaning.specs.Texts.{line_at};
 ghost use Rattle.lg_mean.specs.Machines.{state_of};
 ghost use Rattle.lg_mean.specs.Programs.{IsTableOf};
-ghost use Rattle.lg_mean.specs.Runs.{ComesTo, KeepsCountBehind, over_behind};
+ghost use Rattle.lg_mean.specs.Runs.{ComesTo, KeepsCountAfter, over_after};
 
 use crate::mean_step::MeanStep;
 use crate::portable::Portable;
@@ -47,10 +47,10 @@ impl Portable {
             (O.taken out.old) (O.taken out.new) (O.faults out.old) (O.faults out.new) }
         ensures rises { self.old.steps ≤ self.new.steps }
         ensures fits { Fits unit.now.nodes shape.now (state_of self.new.machine) }
-        ensures over { self.new.over ≡ over_behind result }
+        ensures over { self.new.over ≡ over_after result }
         ensures labels { self.new.labels ≡ self.old.labels }
         ensures later { O.faults out.old ≤ O.faults out.new }
-        ensures kept { KeepsCountBehind result (O.faults out.old) (O.faults out.new) }
+        ensures kept { KeepsCountAfter result (O.faults out.old) (O.faults out.new) }
     {
         steps_are_those_of_the_meaning();
         for _turn in 0..most {

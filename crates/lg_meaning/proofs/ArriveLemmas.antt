@@ -45,8 +45,8 @@ module _ (l : LabelledNodes) (shape : TextShape) (s : State) (n : Node) (x : AtN
   }
 
   -- a frame of the function of a node after its `prolog`
-  pub behind_top : (t : State) (k p : ℕ) (f : Function) → IsAt l shape k p f → p < k → t.at ≡ k → t.frame.size ≡ frame_of f → t.frame.locals ≡ f.locals → RunsIn shape t p
-  behind_top t k p f is lt at size locals =
+  pub after_top : (t : State) (k p : ℕ) (f : Function) → IsAt l shape k p f → p < k → t.at ≡ k → t.frame.size ≡ frame_of f → t.frame.locals ≡ f.locals → RunsIn shape t p
+  after_top t k p f is lt at size locals =
       let other : t.at ≡ f.entry → ⊥ = λ e. (let no : k ≡ p = sym at ∙ e ∙ is.entry in absurd (omega arith)) in
       record { function = f; here = ap (function_here shape.functions) at ∙ is.here; entry = is.entry; top = record { behind = λ _. (size, locals); before = λ e. absurd (other e) } }
 
@@ -62,7 +62,7 @@ module _ (l : LabelledNodes) (shape : TextShape) (s : State) (n : Node) (x : AtN
       let same : r.function ≡ f.0 = same_function l r.function f.0 r.is.is f.1.is (r.is.entry ∙ sym f.1.entry) in
       let size : t.frame.size ≡ frame_of f.0 = ap (λ u. u.size) g.frame ∙ r.size ∙ ap frame_of same in
       let locals : t.frame.locals ≡ f.0.locals = ap (λ u. u.locals) g.frame ∙ r.locals ∙ ap (λ u. u.locals) same in
-      fits_at t k g (home_within l.nodes k p h) (subst (IsTopOf l shape t) (sym h) (behind_top t k p f.0 f.1 lt g.at size locals))
+      fits_at t k g (home_within l.nodes k p h) (subst (IsTopOf l shape t) (sym h) (after_top t k p f.0 f.1 lt g.at size locals))
 
   -- to the next node within a function
   pub next_within : (t : State) (p : ℕ) → Running l shape s p → is_epilog n.op ≡ false → GoesOn l s t (s.at + 1) → FitsWell l shape t

@@ -25,7 +25,7 @@ use Rattle.lg_node.specs.declared.preparation.Preparation.{Preparation}
 use Rattle.lg_node.specs.Nodes.{LabelledNodes}
 use Rattle.lg_node.specs.Functions.{home, frame_of, is_prolog, is_epilog, is_epilog_at}
 use Rattle.lg_node.specs.Labels.{place_of}
-use Rattle.lg_node.specs.Preparations.{prepared_behind, prepared_before, pushed_of, variadic_of}
+use Rattle.lg_node.specs.Preparations.{prepared_after, prepared_before, pushed_of, variadic_of}
 use Rattle.lg_node.specs.Checks.{is_begun, may_stand_outside, breaks_preparation}
 use Rattle.lg_node.specs.Shapes.{TextShape}
 use Rattle.lg_node.specs.ShapeLaws.{has_callee, IsEntry}
@@ -36,7 +36,7 @@ use Rattle.lg_meaning.specs.States.{Frame, State, value, is_part, is_open}
 use Rattle.lg_meaning.specs.Steps.{operand_at, on, begun, prolog_step, called, started, enter, resumed, back_to, leave, ret_step, answered, host_end, call_host, is_marked, call_node, call_operand, begins, is_entry_label, entry_target, call_named, call_step, node_in, function_here}
 use Rattle.lg_meaning.specs.Texts.{text}
 use Rattle.lg_meaning.specs.Fits.{RunsIn, IsTopOf, IsCaller, AreLinked, is_call, passed, FitsWell}
-use Rattle.lg_meaning.proofs.ArriveLemmas.{behind_top, before_top}
+use Rattle.lg_meaning.proofs.ArriveLemmas.{after_top, before_top}
 use Rattle.lg_meaning.proofs.FunctionFacts.{IsAt, same_function}
 use Rattle.lg_meaning.proofs.HostFacts.{Writes, host_writes}
 use Rattle.lg_meaning.proofs.NodeFacts.{AtNode, prepares, still, at_home, function_found, in_some, running, prepared_next}
@@ -53,7 +53,7 @@ relinked l shape f size locals (g ∷ gs) h = (
 )
 
 -- a call leaves nothing prepared
-call_ends : (c : Option Preparation) (o : Op) → is_call o ≡ true → (breaks_preparation o ≡ true → c ≡ None) → prepared_behind c o ≡ None
+call_ends : (c : Option Preparation) (o : Op) → is_call o ≡ true → (breaks_preparation o ≡ true → c ≡ None) → prepared_after c o ≡ None
 call_ends None (op.Control control.Call last) e h = refl
 call_ends (Some call) (op.Control control.Call last) e h = h refl
 call_ends None (op.Control control.Finish last) e h = refl
@@ -95,7 +95,7 @@ module _ (l : LabelledNodes) (shape : TextShape) (s : State) (n : Node) (x : AtN
           record {
             fits = record {
               inside = home_within l.nodes (s.at + 1) s.at next.0;
-              top = subst (IsTopOf l shape (on (begun s f))) (sym next.0) (behind_top l shape s n x (on (begun s f)) (s.at + 1) s.at g.0 g.1 next.1 refl (ap frame_of one) (ap (λ u. u.locals) one));
+              top = subst (IsTopOf l shape (on (begun s f))) (sym next.0) (after_top l shape s n x (on (begun s f)) (s.at + 1) s.at g.0 g.1 next.1 refl (ap frame_of one) (ap (λ u. u.locals) one));
               low = subst (λ (u : Function). 0x3FF00010 + frame_of u ≤ s.frame.sp) same fresh.2;
               linked = relinked l shape s.frame (frame_of f) f.locals s.callers x.well.fits.linked;
               pushed = x.well.fits.pushed ∙ sym (ap pushed_of behind);
@@ -122,7 +122,7 @@ module _ (l : LabelledNodes) (shape : TextShape) (s : State) (n : Node) (x : AtN
       record {
         fits = record {
           inside = home_within l.nodes s.frame.back c.function.entry h;
-          top = subst (IsTopOf l shape t) (sym h) (behind_top l shape s n x t (c.at + 1) c.function.entry f.0 f.1 next.1 c.back (c.size ∙ ap frame_of same) (c.locals ∙ ap (λ u. u.locals) same));
+          top = subst (IsTopOf l shape t) (sym h) (after_top l shape s n x t (c.at + 1) c.function.entry f.0 f.1 next.1 c.back (c.size ∙ ap frame_of same) (c.locals ∙ ap (λ u. u.locals) same));
           linked = linked.1;
           low = (let top : 0x3FF00010 + s.frame.size ≤ s.frame.sp = x.well.fits.low in let below : s.frame.sp + g.size ≡ g.sp = c.below in omega arith);
           pushed = sym (ap pushed_of none);

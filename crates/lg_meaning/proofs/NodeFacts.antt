@@ -24,7 +24,7 @@ use Rattle.lg_node.specs.declared.preparation.Preparation.{Preparation}
 use Rattle.lg_node.specs.Nodes.{LabelledNodes}
 use Rattle.lg_node.specs.Functions.{home, functions, function_of, frame_of, is_prolog, is_prolog_at, IsFunction}
 use Rattle.lg_node.specs.Labels.{is_at, is_labelled}
-use Rattle.lg_node.specs.Preparations.{prepared_behind, prepared_before}
+use Rattle.lg_node.specs.Preparations.{prepared_after, prepared_before}
 use Rattle.lg_node.specs.Checks.{is_begun, may_stand_outside, breaks_preparation}
 use Rattle.lg_node.specs.Shapes.{TextShape}
 use Rattle.lg_node.specs.ShapeLaws.{IsWellShaped, HasFunctions}
@@ -54,7 +54,7 @@ prepares (op.Control control.Pusharg last) = true
 prepares (op.Control control.Finish last) = true
 prepares o = false
 
-pub still : (c : Option Preparation) (o : Op) → prepares o ≡ false → prepared_behind c o ≡ c
+pub still : (c : Option Preparation) (o : Op) → prepares o ≡ false → prepared_after c o ≡ c
 still None (op.Plain plain.Prepare) e = cc
 still None (op.Control control.Finish last) e = refl
 still None o e = refl
@@ -122,11 +122,11 @@ module _ (l : LabelledNodes) (shape : TextShape) (s : State) (n : Node) (x : AtN
       let z = r.top.behind other in
       record { home = h; function = f.0; is = f.1; size = z.0 ∙ ap frame_of same; locals = z.1 ∙ ap (λ g. g.locals) same }
 
-  pub prepared_next : prepared_before l.nodes (s.at + 1) ≡ prepared_behind (prepared_before l.nodes s.at) n.op
+  pub prepared_next : prepared_before l.nodes (s.at + 1) ≡ prepared_after (prepared_before l.nodes s.at) n.op
   prepared_next = prepared_on l.nodes s.at n x.here
 
-  pub prepared_by : (o : Op) (c : Option Preparation) → n.op ≡ o → prepared_before l.nodes s.at ≡ c → prepared_before l.nodes (s.at + 1) ≡ prepared_behind c o
-  prepared_by o c e h = prepared_next ∙ ap (λ (b : Option Preparation). prepared_behind b n.op) h ∙ ap (prepared_behind c) e
+  pub prepared_by : (o : Op) (c : Option Preparation) → n.op ≡ o → prepared_before l.nodes s.at ≡ c → prepared_before l.nodes (s.at + 1) ≡ prepared_after c o
+  prepared_by o c e h = prepared_next ∙ ap (λ (b : Option Preparation). prepared_after b n.op) h ∙ ap (prepared_after c) e
 
   -- nothing is prepared at a label, and where an operation needs that nothing is
   pub unprepared_label : (y k p : ℕ) → slice_get l.places y ≡ Some (Some (place.Node k)) → home l.nodes k ≡ Some p → prepared_before l.nodes k ≡ None

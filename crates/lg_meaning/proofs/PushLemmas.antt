@@ -9,7 +9,7 @@ use Rattle.lg_op.specs.declared.op.PlainOp.TheVariants as plain
 use Rattle.lg_op.specs.declared.op.StoreType.{StoreType}
 use Rattle.lg_node.specs.Nodes.{LabelledNodes}
 use Rattle.lg_node.specs.declared.preparation.Preparation.{Preparation}
-use Rattle.lg_node.specs.Preparations.{prepared_behind, prepared_before, pushed_of, variadic_of}
+use Rattle.lg_node.specs.Preparations.{prepared_after, prepared_before, pushed_of, variadic_of}
 use Rattle.lg_node.specs.Shapes.{TextShape}
 use Rattle.lg_cells.specs.Memories.{writable}
 use Rattle.lg_op.specs.Operators.{store_width}
@@ -22,11 +22,11 @@ use Rattle.lg_meaning.proofs.Outcomes.{OnGoes, need_on, when_on}
 use Rattle.lg_meaning.proofs.StayLemmas.{next_fits}
 
 -- an `ellipsis` marks the call that is being prepared, and nothing where none is
-pushed_kept : (c : Option Preparation) → pushed_of (prepared_behind c (op.Plain plain.Ellipsis)) ≡ pushed_of c
+pushed_kept : (c : Option Preparation) → pushed_of (prepared_after c (op.Plain plain.Ellipsis)) ≡ pushed_of c
 pushed_kept None = refl
 pushed_kept (Some call) = refl
 
-marks : (c : Option Preparation) → variadic_of (prepared_behind c (op.Plain plain.Ellipsis)) ≡ marked (variadic_of c)
+marks : (c : Option Preparation) → variadic_of (prepared_after c (op.Plain plain.Ellipsis)) ≡ marked (variadic_of c)
 marks None = refl
 marks (Some call) = refl
 
@@ -43,12 +43,12 @@ module _ (l : LabelledNodes) (shape : TextShape) (s : State) (n : Node) (x : AtN
   }
     where
       behind : prepared_before l.nodes (s.at + 1) ≡ Some record { pushed = 0; variadic = false }
-      behind = prepared_next l shape s n x ∙ ap (prepared_behind (prepared_before l.nodes s.at)) e
+      behind = prepared_next l shape s n x ∙ ap (prepared_after (prepared_before l.nodes s.at)) e
 
   pub ellipsis_fits : n.op ≡ op.Plain plain.Ellipsis → OnGoes (FitsWell l shape) (ellipsis_step s)
   ellipsis_fits e =
       let c = prepared_before l.nodes s.at in
-      let behind : prepared_before l.nodes (s.at + 1) ≡ prepared_behind c (op.Plain plain.Ellipsis) = prepared_by l shape s n x (op.Plain plain.Ellipsis) c e refl in
+      let behind : prepared_before l.nodes (s.at + 1) ≡ prepared_after c (op.Plain plain.Ellipsis) = prepared_by l shape s n x (op.Plain plain.Ellipsis) c e refl in
       next_fits l shape s n x (on (record s { variadic = marked s.variadic })) (rw e refl) (rw e refl) (rw e refl) record {
         at = refl;
         frame = refl;
@@ -65,7 +65,7 @@ module _ (l : LabelledNodes) (shape : TextShape) (s : State) (n : Node) (x : AtN
       by : (v : ℕ) → FitsWell l shape (on (record s { pushed = s.pushed ++ v ∷ [] }))
       by v =
           let c = x.shaped.pushes s.at n x.here (rw e refl) in
-          let behind : prepared_before l.nodes (s.at + 1) ≡ prepared_behind (Some c.0) (op.Control control.Pusharg last) = prepared_by l shape s n x (op.Control control.Pusharg last) (Some c.0) e c.1 in
+          let behind : prepared_before l.nodes (s.at + 1) ≡ prepared_after (Some c.0) (op.Control control.Pusharg last) = prepared_by l shape s n x (op.Control control.Pusharg last) (Some c.0) e c.1 in
           let count : length s.pushed ≡ c.0.pushed = x.well.fits.pushed ∙ ap pushed_of c.1 in
           next_fits l shape s n x (on (record s { pushed = s.pushed ++ v ∷ [] })) (rw e refl) (rw e refl) (rw e refl) record {
             at = refl;

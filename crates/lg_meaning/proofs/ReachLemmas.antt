@@ -33,7 +33,7 @@ use Rattle.lg_node.specs.Shapes.{TextShape, IsShapeOf, IsTakenIn, IsTarget, IsNe
 use Rattle.lg_node.proofs.SuccessorLaws.{has_functions}
 use Rattle.lg_node.proofs.WellShaped.{well_shaped as accepted_well_shaped}
 use Rattle.lg_meaning.specs.States.{State, value, is_open}
-use Rattle.lg_meaning.specs.Steps.{Outcome, operand_at, va_start_step, va_arg_step, va_end_step, node_of_label, node_in, branch, function_here, is_behind, is_target, jump_target, jump_step, host_end, call_host, is_marked, call_node, call_operand, call_named, call_step, entry_target, store_step, stored_operand, address, push_step, prolog_step, node_step, with_reg, quiet, on, on_with_carry, started, called, prepare_step, ellipsis_step, wide_step, unary_step, movi_step, load_step, retval_step, getarg_step}
+use Rattle.lg_meaning.specs.Steps.{Outcome, operand_at, va_start_step, va_arg_step, va_end_step, node_of_label, node_in, branch, function_here, is_after, is_target, jump_target, jump_step, host_end, call_host, is_marked, call_node, call_operand, call_named, call_step, entry_target, store_step, stored_operand, address, push_step, prolog_step, node_step, with_reg, quiet, on, on_with_carry, started, called, prepare_step, ellipsis_step, wide_step, unary_step, movi_step, load_step, retval_step, getarg_step}
 use Rattle.lg_op.specs.Operators.{store_width, holds, branch_sum_value, branch_sum_goes}
 use Rattle.lg_meaning.specs.Texts.{text, step_at}
 use Rattle.lg_meaning.proofs.FallLemmas.{Falls, binary_node_falls, wide_falls, unary_falls, movi_falls, load_falls, retval_falls, getarg_falls, va_start_falls, va_arg_falls, va_end_falls}
@@ -97,7 +97,7 @@ module _ (l : LabelledNodes) (shape : TextShape) (s : State) (n : Node) (is : Is
   -- ---- `jmpr`
   taken_in : (k : ℕ) → Lands (is_target (text l shape A) s.at) l.places k → (o : Option ℕ) → home l.nodes s.at ≡ o → IsTakenIn l shape s.at k
   taken_in k d (Some p) h =
-      let parts = and_parts (slice_index_or shape.taken d.label false) (is_behind (function_here shape.functions s.at) k) d.passes in
+      let parts = and_parts (slice_index_or shape.taken d.label false) (is_after (function_here shape.functions s.at) k) d.passes in
       let f = function_at_home l shape (has_functions l is.accepted) is.functions s.at p h in
       let range : (nat_lt f.0.entry k && nat_le k f.0.last) ≡ true = rw f.1.here at parts.1 in
       let low : f.0.entry < k = grind arith in
@@ -112,7 +112,7 @@ module _ (l : LabelledNodes) (shape : TextShape) (s : State) (n : Node) (is : Is
         behind = omega (arith, f.1.entry);
       }
   taken_in k d None h =
-      let parts = and_parts (slice_index_or shape.taken d.label false) (is_behind (function_here shape.functions s.at) k) d.passes in
+      let parts = and_parts (slice_index_or shape.taken d.label false) (is_after (function_here shape.functions s.at) k) d.passes in
       let out = (has_functions l is.accepted).outside s.at h in
       let none : function_here shape.functions s.at ≡ None = ap (λ (fs : List Function). function_here fs s.at) is.functions ∙ ap (option_and_then (slice_get (functions l.nodes))) out.0 in
       let never : false ≡ true = rw none at parts.1 in

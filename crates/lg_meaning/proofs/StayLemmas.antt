@@ -19,7 +19,7 @@ use Rattle.lg_node.specs.Checks.{is_begun, may_stand_outside, breaks_preparation
 use Rattle.lg_node.specs.Shapes.{TextShape}
 use Rattle.lg_node.specs.ShapeLaws.{has_target, IsTargetIn, IsEntry, JumpsTo}
 use Rattle.lg_meaning.specs.States.{State, value}
-use Rattle.lg_meaning.specs.Steps.{operand_at, to, branch, node_in, node_of_label, later, landing, last_landing, function_here, is_behind, is_target, jump_target, jump_step}
+use Rattle.lg_meaning.specs.Steps.{operand_at, to, branch, node_in, node_of_label, later, landing, last_landing, function_here, is_after, is_target, jump_target, jump_step}
 use Rattle.lg_meaning.specs.Texts.{text}
 use Rattle.lg_meaning.specs.Fits.{FitsWell}
 use Rattle.lg_meaning.proofs.ArriveLemmas.{GoesOn, within_function, next_within, into_function, next_outside}
@@ -148,7 +148,7 @@ module _ (l : LabelledNodes) (shape : TextShape) (s : State) (n : Node) (x : AtN
           let h = in_some l shape s n x out in
           let r = running l shape s n x h.0 h.1 pro in
           let d = last_landed (is_target (text l shape A) s.at) l.places A w (length l.places) k t in
-          let behind : is_behind (function_here shape.functions s.at) k ≡ true = (and_parts (slice_index_or shape.taken d.label false) (is_behind (function_here shape.functions s.at) k) d.passes).1 in
+          let behind : is_after (function_here shape.functions s.at) k ≡ true = (and_parts (slice_index_or shape.taken d.label false) (is_after (function_here shape.functions s.at) k) d.passes).1 in
           let range : (nat_lt r.function.entry k && nat_le k r.function.last) ≡ true = rw r.is.here at behind in
           let low : r.function.entry < k = grind arith in
           let high : k ≤ r.function.last = grind arith in

@@ -175,13 +175,13 @@ abbrev pub function_here : List Function → ℕ → Option Function
 function_here functions k = option_and_then (slice_get functions) (function_of functions k)
 
 -- a node of a function after its `prolog`
-abbrev pub is_behind : Option Function → ℕ → Bool
-is_behind None k = false
-is_behind (Some f) k = nat_lt f.entry k && nat_le k f.last
+abbrev pub is_after : Option Function → ℕ → Bool
+is_after None k = false
+is_after (Some f) k = nat_lt f.entry k && nat_le k f.last
 
 -- a taken label that is bound in the function of a node after its `prolog`
 abbrev pub is_target : Text → ℕ → ℕ → ℕ → Bool
-is_target t at l k = slice_index_or t.taken l false && is_behind (function_here t.functions at) k
+is_target t at l k = slice_index_or t.taken l false && is_after (function_here t.functions at) k
 
 -- `jmpr` goes to the last of the taken labels of its function that have this address
 abbrev pub jump_target : Text → ℕ → ℕ → Option ℕ

@@ -42,12 +42,12 @@ greatest at last k none t = by (cases_order k last)
 
 module _ (at more : ℕ → Bool) (x : ℕ) (free : at x ≡ false) (j : IsJoined at more x) where
   -- a set with the label has the same labels after it, and in front of it
-  pub none-behind : (from : ℕ) → x < from → NoneFrom at from → NoneFrom more from
-  none-behind from h none = λ k le. j.others k (λ e. omega (arith, e)) ∙ none k le
+  pub none-after : (from : ℕ) → x < from → NoneFrom at from → NoneFrom more from
+  none-after from h none = λ k le. j.others k (λ e. omega (arith, e)) ∙ none k le
 
-  pub first-behind : (from : ℕ) → x < from → (o : Option Label) → IsFirst at from o → IsFirst more from o
-  first-behind from h None none = none-behind from h none
-  first-behind from h (Some l) f = record {
+  pub first-after : (from : ℕ) → x < from → (o : Option Label) → IsFirst at from o → IsFirst more from o
+  first-after from h None none = none-after from h none
+  first-after from h (Some l) f = record {
     later = f.later;
     bound = j.others l.0 (apart at l.0 x f.bound free) ∙ f.bound;
     none = λ k le lt. j.others k (λ e. omega (arith, e)) ∙ f.none k le lt;
@@ -65,13 +65,13 @@ module _ (at more : ℕ → Bool) (x : ℕ) (free : at x ≡ false) (j : IsJoine
 
   -- after the label come those that came after the one in front of it
   pub first-across : (b : ℕ) → b < x → ((k : ℕ) → b < k → k < x → at k ≡ false) → (o : Option Label) → IsFirst at (b + 1) o → IsFirst more (x + 1) o
-  first-across b lt between None none = none-behind (x + 1) (omega arith) (λ k le. none k (omega arith))
+  first-across b lt between None none = none-after (x + 1) (omega arith) (λ k le. none k (omega arith))
   first-across b lt between (Some l) f = by (cases_order l.0 x)
     where
       by : (l.0 ≡ x) ⊎ ((l.0 < x) ⊎ (x < l.0)) → FirstFrom more (x + 1) l.0
       by (inl e) = absurd (apart at l.0 x f.bound free e)
       by (inr (inl less)) = let low = f.later in absurd (never (at l.0) f.bound (between l.0 (omega (arith, low)) less))
-      by (inr (inr above)) = first-behind (x + 1) (omega arith) (Some l) record { later = omega arith; bound = f.bound; none = λ k le high. f.none k (omega arith) high }
+      by (inr (inr above)) = first-after (x + 1) (omega arith) (Some l) record { later = omega arith; bound = f.bound; none = λ k le high. f.none k (omega arith) high }
 
   -- a label in front of the first
   pub front : (next : List (Option Label)) (e : Ends) (l : Label) → l.0 ≡ x → x < length next → x < e.first.0 → IsChain at next (Some e) → IsChain more (set next x (Some e.first)) (Some record { first = l; last = e.last })
@@ -82,7 +82,7 @@ module _ (at more : ℕ → Bool) (x : ℕ) (free : at x ≡ false) (j : IsJoine
         bounds = (
           record { later = omega arith; bound = ap more same ∙ j.joined; none = λ k le high. j.others k (λ n. omega (arith, n, same, high)) ∙ first.none k le (omega (arith, same, high)) },
           j.others e.last.0 (λ n. omega (arith, n)) ∙ chain.bounds.1,
-          none-behind (e.last.0 + 1) (omega arith) chain.bounds.2,
+          none-after (e.last.0 + 1) (omega arith) chain.bounds.2,
         );
         links = λ k t. by k t (cases_order k x);
         within = λ k t. inside k t (cases_order k x);
@@ -98,11 +98,11 @@ module _ (at more : ℕ → Bool) (x : ℕ) (free : at x ≡ false) (j : IsJoine
       by k t (inl n) =
           let here : get_or (set next x (Some e.first)) k None ≡ Some e.first = ap (λ m. get_or (set next x (Some e.first)) m None) n ∙ get_or-set_same next x (Some e.first) None within in
           let first = chain.bounds.0 in
-          subst (IsFirst more (k + 1)) (sym here) (first-behind (k + 1) (omega (arith, n)) (Some e.first) record { later = omega (arith, n, lt); bound = first.bound; none = λ m low high. first.none m (omega arith) high })
+          subst (IsFirst more (k + 1)) (sym here) (first-after (k + 1) (omega (arith, n)) (Some e.first) record { later = omega (arith, n, lt); bound = first.bound; none = λ m low high. first.none m (omega arith) high })
       by k t (inr (inl less)) = let up = above k t (λ n. omega (arith, n, less)) in absurd (omega (arith, up, less))
       by k t (inr (inr more_than)) =
           let there : get_or (set next x (Some e.first)) k None ≡ get_or next k None = get_or-set_other next x k (Some e.first) None (λ n. omega (arith, n, more_than)) in
-          subst (IsFirst more (k + 1)) (sym there) (first-behind (k + 1) (omega (arith, more_than)) (get_or next k None) (chain.links k (old k t (λ n. omega (arith, n, more_than)))))
+          subst (IsFirst more (k + 1)) (sym there) (first-after (k + 1) (omega (arith, more_than)) (get_or next k None) (chain.links k (old k t (λ n. omega (arith, n, more_than)))))
 
       inside : (k : ℕ) → more k ≡ true → (k ≡ x) ⊎ ((k < x) ⊎ (x < k)) → k < length (set next x (Some e.first))
       inside k t (inl n) = omega (arith, n, length-set next x (Some e.first))
@@ -139,7 +139,7 @@ module _ (at more : ℕ → Bool) (x : ℕ) (free : at x ≡ false) (j : IsJoine
           subst (IsFirst more (k + 1)) (sym here) (subst (λ m. IsFirst more (m + 1) of) (sym n) there)
       by k s (inr (inr above)) _ =
           let here : get_or new k None ≡ get_or next k None = at_other k (λ n. omega (arith, n, above)) (λ n. omega (arith, n, above, lt)) in
-          subst (IsFirst more (k + 1)) (sym here) (first-behind (k + 1) (omega (arith, above)) (get_or next k None) (chain.links k (old k s (λ n. omega (arith, n, above)))))
+          subst (IsFirst more (k + 1)) (sym here) (first-after (k + 1) (omega (arith, above)) (get_or next k None) (chain.links k (old k s (λ n. omega (arith, n, above)))))
       by k s (inr (inl less)) (inl n) =
           let here : get_or new k None ≡ Some l = ap (λ m. get_or new m None) n ∙ at_b in
           let there : FirstFrom more (k + 1) l.0 = record { later = omega (arith, n, lt, same); bound = ap more same ∙ j.joined; none = λ m low high. j.others m (λ q. omega (arith, q, same, high)) ∙ between m (omega (arith, n, low)) (omega (arith, same, high)) } in
@@ -162,5 +162,5 @@ module _ (at more : ℕ → Bool) (x : ℕ) (free : at x ≡ false) (j : IsJoine
   ends-around e low high ends = (
     first-before 0 e.first.0 (omega arith) low ends.0.bound (Some e.first) ends.0,
     j.others e.last.0 (apart at e.last.0 x ends.1 free) ∙ ends.1,
-    none-behind (e.last.0 + 1) (omega (arith, high)) ends.2,
+    none-after (e.last.0 + 1) (omega (arith, high)) ends.2,
   )

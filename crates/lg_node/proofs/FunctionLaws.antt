@@ -10,7 +10,7 @@ use Rattle.lg_op.specs.declared.op.Op.TheVariants.{Plain}
 use Rattle.lg_op.specs.declared.op.PlainOp.TheVariants as plain
 use Rattle.lg_op.specs.declared.node.Node.{Node}
 use Rattle.lg_node.specs.declared.function.Function.{Function}
-use Rattle.lg_node.specs.Functions.{is_prolog, is_epilog, is_prolog_at, is_epilog_at, home_of, home_at, open_behind_at, open_before, home, local_size, ended, ended_at, functions_before, functions, IsFunction}
+use Rattle.lg_node.specs.Functions.{is_prolog, is_epilog, is_prolog_at, is_epilog_at, home_of, home_at, open_after_at, open_before, home, local_size, ended, ended_at, functions_before, functions, IsFunction}
 use Rattle.lg_node.proofs.WalkLemmas.{home_here, home_past, open_start, open_on, open_below}
 use Rattle.lg_node.proofs.FunctionLemmas.{functions_start, functions_on}
 
@@ -54,7 +54,7 @@ open_from nodes i p e = by (home_at (open_before nodes i) i (slice_get nodes i))
     kept h true e = cc
     kept h false e = e
 
-    by : (h : Option ℕ) (o : Option Node) → open_behind_at h o ≡ Some p → h ≡ Some p
+    by : (h : Option ℕ) (o : Option Node) → open_after_at h o ≡ Some p → h ≡ Some p
     by h None e = e
     by h (Some n) e = kept h (is_epilog n.op) e
 

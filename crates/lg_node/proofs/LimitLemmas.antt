@@ -15,9 +15,9 @@ use Rattle.lg_op.specs.declared.node.Node.{Node}
 use Rattle.lg_node.specs.declared.preparation.Preparation.{Preparation}
 use Rattle.lg_node.specs.Nodes.{LabelledNodes}
 use Rattle.lg_node.specs.Functions.{local_size}
-use Rattle.lg_node.specs.Preparations.{prepared_behind, prepared_before, pushed_of}
+use Rattle.lg_node.specs.Preparations.{prepared_after, prepared_before, pushed_of}
 use Rattle.lg_node.specs.Checks.{FailsAll, is_arg, args_before, locals_before, pushes_too_many, refuses, kinds, refusal_at, NoneBefore}
-use Rattle.lg_node.specs.Walks.{walk_at, walk_behind, IsWithinLimits}
+use Rattle.lg_node.specs.Walks.{walk_at, walk_after, IsWithinLimits}
 use Rattle.lg_node.proofs.WalkLemmas.{walk_start, walk_on}
 
 -- what an index after the last node would give
@@ -45,7 +45,7 @@ args_on : (a : Bool) (args : ℕ) (op : Op) → is_arg op ≡ a → (is_arg op &
 args_on true args op ea few h = let below : nat_le 16 args ≡ false = rw ea at few in rw ea (omega (arith, leb-false 16 args below))
 args_on false args op ea few h = rw ea (omega arith)
 
-pushed_on : (call : Option Preparation) (op : Op) → pushes_too_many call op ≡ false → pushed_of call ≤ 16 → pushed_of (prepared_behind call op) ≤ 16
+pushed_on : (call : Option Preparation) (op : Op) → pushes_too_many call op ≡ false → pushed_of call ≤ 16 → pushed_of (prepared_after call op) ≤ 16
 pushed_on None (Plain plain.Prepare) few h = omega arith
 pushed_on (Some c) (Plain plain.Prepare) few h = omega arith
 pushed_on None (Control control.Finish last) few h = omega arith
@@ -65,7 +65,7 @@ limits_on l i n e r limits =
     let big : nat_lt 65536 (locals_before l.nodes i + local_size n) ≡ false = none.1.1.1.1.1.1.0 in
     let few : args_before l.nodes i + cond (is_arg n.op) 1 0 ≤ 16 = args_on (is_arg n.op) (args_before l.nodes i) n.op refl many.0 limits.args in
     let small : locals_before l.nodes i + local_size n ≤ 65536 = ltb-false 65536 (locals_before l.nodes i + local_size n) big in
-    let behind : IsWithinLimits (walk_behind (walk_at l.nodes i) i n) = record {
+    let behind : IsWithinLimits (walk_after (walk_at l.nodes i) i n) = record {
       args = within _ (args_before l.nodes i + cond (is_arg n.op) 1 0) 16 few;
       locals = within _ (locals_before l.nodes i + local_size n) 65536 small;
       pushed = pushed_on (prepared_before l.nodes i) n.op many.1 limits.pushed;

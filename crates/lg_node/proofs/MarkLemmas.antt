@@ -8,13 +8,13 @@ use Rattle.lg_op.specs.declared.op.Op.TheVariants as op
 use Rattle.lg_op.specs.declared.operand.Operand.{Operand}
 use Rattle.lg_node.specs.declared.preparation.Preparation.{Preparation}
 use Rattle.lg_node.specs.declared.walk.Walk.{Walk}
-use Rattle.lg_node.specs.Functions.{is_prolog, home_of, open_behind, local_of, local_size}
-use Rattle.lg_node.specs.Preparations.{prepared_behind, varies_behind}
+use Rattle.lg_node.specs.Functions.{is_prolog, home_of, open_after, local_of, local_size}
+use Rattle.lg_node.specs.Preparations.{prepared_after, varies_after}
 use Rattle.lg_node.specs.Checks.{is_arg}
-use Rattle.lg_node.specs.Walks.{is_mark, walk_behind}
+use Rattle.lg_node.specs.Walks.{is_mark, walk_after}
 
 pub inner : (p i : ℕ) (call : Option Preparation) (varies : Bool) (xs : List Operand) (o : Op) → is_mark o ≡ false
-    → (open_behind (home_of (Some p) i o) o ≡ Some p) × (is_prolog o ≡ false) × (is_arg o ≡ false) × (local_of o xs ≡ 0) × (prepared_behind call o ≡ call) × (varies_behind varies call o ≡ varies)
+    → (open_after (home_of (Some p) i o) o ≡ Some p) × (is_prolog o ≡ false) × (is_arg o ≡ false) × (local_of o xs ≡ 0) × (prepared_after call o ≡ call) × (varies_after varies call o ≡ varies)
 inner p i None varies xs (op.Binary a b) e = (refl, refl, refl, refl, refl, refl)
 inner p i (Some x) varies xs (op.Binary a b) e = (refl, refl, refl, refl, refl, refl)
 inner p i None varies xs (op.Wide a b) e = (refl, refl, refl, refl, refl, refl)
@@ -57,15 +57,15 @@ same w p function prolog arg size call varies f a b c d e g =
     ∙ ap (λ k. known (Some p) w.begun w.args w.locals w.call k) g
     ∙ ap (λ k. known k w.begun w.args w.locals w.call w.varies) (sym f)
 
-stays : (w : Walk) (i p : ℕ) (n : Node) → w.function ≡ Some p → is_mark n.op ≡ false → walk_behind w i n ≡ w
+stays : (w : Walk) (i p : ℕ) (n : Node) → w.function ≡ Some p → is_mark n.op ≡ false → walk_after w i n ≡ w
 stays w i p n f e =
     let t = inner p i w.call w.varies n.operands n.op e in
-    same w p (open_behind (home_of w.function i n.op) n.op) (is_prolog n.op) (is_arg n.op) (local_size n) (prepared_behind w.call n.op) (varies_behind w.varies w.call n.op)
-    f (ap (λ h. open_behind (home_of h i n.op) n.op) f ∙ t.0) t.1 t.2 t.3 t.4 t.5
+    same w p (open_after (home_of w.function i n.op) n.op) (is_prolog n.op) (is_arg n.op) (local_size n) (prepared_after w.call n.op) (varies_after w.varies w.call n.op)
+    f (ap (λ h. open_after (home_of h i n.op) n.op) f ∙ t.0) t.1 t.2 t.3 t.4 t.5
 
-pub unmarked : (w : Walk) (i : ℕ) (n : Node) → is_some w.function ≡ true → is_mark n.op ≡ false → w ≡ walk_behind w i n
+pub unmarked : (w : Walk) (i : ℕ) (n : Node) → is_some w.function ≡ true → is_mark n.op ≡ false → w ≡ walk_after w i n
 unmarked w i n some e = by w.function refl some
   where
-    by : (h : Option ℕ) → w.function ≡ h → is_some h ≡ true → w ≡ walk_behind w i n
+    by : (h : Option ℕ) → w.function ≡ h → is_some h ≡ true → w ≡ walk_after w i n
     by None f s = cc
     by (Some p) f s = sym (stays w i p n f e)

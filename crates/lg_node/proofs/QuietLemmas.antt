@@ -18,7 +18,7 @@ use Rattle.lg_node.specs.Functions.{home_of, open_before, home, local_size}
 use Rattle.lg_node.specs.Labels.{is_labelled}
 use Rattle.lg_node.specs.Preparations.{prepared_before, varies_before}
 use Rattle.lg_node.specs.Checks.{FailsAll, is_label, is_missing, is_bad_call, is_too_big, locals_before, refusal_at, refuses, kinds}
-use Rattle.lg_node.specs.Walks.{is_mark, is_quiet, walk_at, walk_behind, IsWithinLimits}
+use Rattle.lg_node.specs.Walks.{is_mark, is_quiet, walk_at, walk_after, IsWithinLimits}
 use Rattle.lg_node.proofs.AstrayLemmas.{none_astray}
 use Rattle.lg_node.proofs.MarkLemmas.{inner, unmarked}
 use Rattle.lg_node.proofs.WalkLemmas.{home_here}
@@ -107,7 +107,7 @@ pub quiet_passes : (l : LabelledNodes) (i : ℕ) (n : Node) (w : Walk) → slice
 unfolding refusal_at
 quiet_passes l i n w here at limits is = rw (here, sym (quiet l i n w here at limits is)) refl
 
-pub quiet_stays : (w : Walk) (i : ℕ) (n : Node) → is_quiet w n.op n.operands ≡ true → w ≡ walk_behind w i n
+pub quiet_stays : (w : Walk) (i : ℕ) (n : Node) → is_quiet w n.op n.operands ≡ true → w ≡ walk_after w i n
 quiet_stays w i n is =
     let one = and_parts (is_some w.function) (is_none w.call && (not (is_mark n.op) && not (list_any is_label n.operands))) is in
     let two = and_parts (is_none w.call) (not (is_mark n.op) && not (list_any is_label n.operands)) one.1 in

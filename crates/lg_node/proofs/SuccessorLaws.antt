@@ -19,7 +19,7 @@ use Rattle.lg_node.specs.declared.function.Function.{Function}
 use Rattle.lg_node.specs.declared.place.Place.{Place}
 use Rattle.lg_node.specs.declared.place.Place.TheVariants as place
 use Rattle.lg_node.specs.Nodes.{LabelledNodes}
-use Rattle.lg_node.specs.Functions.{is_epilog, is_epilog_at, open_behind, open_before, home, functions_before, functions, IsFunction}
+use Rattle.lg_node.specs.Functions.{is_epilog, is_epilog_at, open_after, open_before, home, functions_before, functions, IsFunction}
 use Rattle.lg_node.specs.Labels.{place_of, is_inner, is_inside_some, names_address, is_taken}
 use Rattle.lg_node.specs.Checks.{IsAccepted}
 use Rattle.lg_node.specs.Shapes.{TextShape, IsShapeOf, IsSuccessor, Way, Next, Jump, Either, Taken, Leave, way_of, target_of, GoesBy, IsTarget, IsNext}
@@ -134,7 +134,7 @@ module _ (l : LabelledNodes) (s : TextShape) (is : IsShapeOf l s) where
   enters_by_next i k n e h next = by (home l.nodes k) refl
     where
       closed : open_before l.nodes k ≡ None
-      closed = ap (open_before l.nodes) next.0 ∙ open_on l.nodes i n e ∙ ap (λ (o : Option ℕ). open_behind o n.op) (sym (home_here l.nodes i n e) ∙ h) ∙ none_behind (is_epilog n.op)
+      closed = ap (open_before l.nodes) next.0 ∙ open_on l.nodes i n e ∙ ap (λ (o : Option ℕ). open_after o n.op) (sym (home_here l.nodes i n e) ∙ h) ∙ none_behind (is_epilog n.op)
 
       by : (o : Option ℕ) → home l.nodes k ≡ o → (home l.nodes k ≡ None) ⊎ (home l.nodes k ≡ Some k)
       by None eo = inl eo

@@ -9,10 +9,10 @@ use Rattle.std.proofs.lemmas.Grind.{common_steps}
 use Rattle.std.proofs.lemmas.Option.{slice_get_within, get_or_from_slice_get, slice_get_past}
 use Rattle.std.proofs.Math.Bool.{or-false}
 use Rattle.lg_op.specs.declared.node.Node.{Node}
-use Rattle.lg_node.specs.Functions.{is_prolog, is_epilog, is_prolog_node, home_of, home_at, open_behind, open_behind_at, open_before, home, since, local_size}
-use Rattle.lg_node.specs.Preparations.{prepared_behind, prepared_before, varies_behind, varies_before}
+use Rattle.lg_node.specs.Functions.{is_prolog, is_epilog, is_prolog_node, home_of, home_at, open_after, open_after_at, open_before, home, since, local_size}
+use Rattle.lg_node.specs.Preparations.{prepared_after, prepared_before, varies_after, varies_before}
 use Rattle.lg_node.specs.Checks.{is_arg_node, is_begun}
-use Rattle.lg_node.specs.Walks.{walk_at, behind_in, walk_behind}
+use Rattle.lg_node.specs.Walks.{walk_at, after_in, walk_after}
 
 pub take_on : (nodes : List Node) (i : ℕ) (n : Node) → slice_get nodes i ≡ Some n → take (i + 1) nodes ≡ take i nodes ++ n ∷ []
 take_on nodes i n e = take_more nodes i n (slice_get_within nodes i n e) ∙ ap (λ x. take i nodes ++ x ∷ []) (get_or_from_slice_get nodes i n n e)
@@ -30,7 +30,7 @@ pub open_start : (nodes : List Node) → open_before nodes 0 ≡ None
 unfolding open_before
 open_start nodes = refl
 
-pub open_on : (nodes : List Node) (i : ℕ) (n : Node) → slice_get nodes i ≡ Some n → open_before nodes (i + 1) ≡ open_behind (home_of (open_before nodes i) i n.op) n.op
+pub open_on : (nodes : List Node) (i : ℕ) (n : Node) → slice_get nodes i ≡ Some n → open_before nodes (i + 1) ≡ open_after (home_of (open_before nodes i) i n.op) n.op
 unfolding open_before
 open_on nodes i n e = rw (add-one, e) refl
 
@@ -38,7 +38,7 @@ pub prepared_start : (nodes : List Node) → prepared_before nodes 0 ≡ None
 unfolding prepared_before
 prepared_start nodes = refl
 
-pub prepared_on : (nodes : List Node) (i : ℕ) (n : Node) → slice_get nodes i ≡ Some n → prepared_before nodes (i + 1) ≡ prepared_behind (prepared_before nodes i) n.op
+pub prepared_on : (nodes : List Node) (i : ℕ) (n : Node) → slice_get nodes i ≡ Some n → prepared_before nodes (i + 1) ≡ prepared_after (prepared_before nodes i) n.op
 unfolding prepared_before
 prepared_on nodes i n e = rw (add-one, e) refl
 
@@ -46,7 +46,7 @@ pub varies_start : (nodes : List Node) → varies_before nodes 0 ≡ false
 unfolding varies_before
 varies_start nodes = refl
 
-pub varies_on : (nodes : List Node) (i : ℕ) (n : Node) → slice_get nodes i ≡ Some n → varies_before nodes (i + 1) ≡ varies_behind (varies_before nodes i) (prepared_before nodes i) n.op
+pub varies_on : (nodes : List Node) (i : ℕ) (n : Node) → slice_get nodes i ≡ Some n → varies_before nodes (i + 1) ≡ varies_after (varies_before nodes i) (prepared_before nodes i) n.op
 unfolding varies_before
 varies_on nodes i n e = rw (add-one, e) refl
 
@@ -55,10 +55,10 @@ abbrev IsBelow : Option ℕ → ℕ → Type 0
 IsBelow None i = Unit {0}
 IsBelow (Some p) i = p < i
 
-below_behind : (current : Option ℕ) (i : ℕ) (n : Node) → IsBelow current i → IsBelow (open_behind (home_of current i n.op) n.op) (i + 1)
-below_behind current i n h = by current (is_prolog n.op) (is_epilog n.op) refl refl h
+below_after : (current : Option ℕ) (i : ℕ) (n : Node) → IsBelow current i → IsBelow (open_after (home_of current i n.op) n.op) (i + 1)
+below_after current i n h = by current (is_prolog n.op) (is_epilog n.op) refl refl h
   where
-    by : (o : Option ℕ) (a b : Bool) → is_prolog n.op ≡ a → is_epilog n.op ≡ b → IsBelow o i → IsBelow (open_behind (home_of o i n.op) n.op) (i + 1)
+    by : (o : Option ℕ) (a b : Bool) → is_prolog n.op ≡ a → is_epilog n.op ≡ b → IsBelow o i → IsBelow (open_after (home_of o i n.op) n.op) (i + 1)
     by None true true ea eb h = rw (ea, eb) tt
     by None true false ea eb h = rw (ea, eb) (omega arith)
     by None false true ea eb h = rw (ea, eb) tt
@@ -70,9 +70,9 @@ below_at : (nodes : List Node) (i : ℕ) (o : Option Node) → slice_get nodes i
 unfolding open_before
 below_at nodes i None e h = rw e (weaker (open_before nodes i) h)
   where
-    weaker : (o : Option ℕ) → IsBelow o i → IsBelow (open_behind_at (home_at o i None) None) (suc i)
+    weaker : (o : Option ℕ) → IsBelow o i → IsBelow (open_after_at (home_at o i None) None) (suc i)
     weaker o h = tt
-below_at nodes i (Some n) e h = rw (e, ← add-one) (below_behind (open_before nodes i) i n h)
+below_at nodes i (Some n) e h = rw (e, ← add-one) (below_after (open_before nodes i) i n h)
 
 pub open_is_below : (nodes : List Node) (i : ℕ) → IsBelow (open_before nodes i) i
 unfolding open_before
@@ -125,9 +125,9 @@ begun_on nodes i n e = ap (list_any is_prolog_node) (take_on nodes i n e) ∙ li
 pub walk_start : (nodes : List Node) → walk_at nodes 0 ≡ record { function = None; begun = false; args = 0; locals = 0; call = None; varies = false }
 walk_start nodes = rw (open_start nodes, prepared_start nodes, varies_start nodes) refl
 
-pub walk_on : (nodes : List Node) (i : ℕ) (n : Node) → slice_get nodes i ≡ Some n → walk_behind (walk_at nodes i) i n ≡ walk_at nodes (i + 1)
+pub walk_on : (nodes : List Node) (i : ℕ) (n : Node) → slice_get nodes i ≡ Some n → walk_after (walk_at nodes i) i n ≡ walk_at nodes (i + 1)
 walk_on nodes i n e =
     let args = since_on (λ x. cond (is_arg_node x) 1 0) nodes i n e in
     let locals = since_on local_size nodes i n e in
-    let same : behind_in (open_before nodes (i + 1)) (walk_at nodes i) n ≡ walk_at nodes (i + 1) = rw (begun_on nodes i n e, args, locals, prepared_on nodes i n e, varies_on nodes i n e) refl in
-    ap (λ (o : Option ℕ). behind_in o (walk_at nodes i) n) (sym (open_on nodes i n e)) ∙ same
+    let same : after_in (open_before nodes (i + 1)) (walk_at nodes i) n ≡ walk_at nodes (i + 1) = rw (begun_on nodes i n e, args, locals, prepared_on nodes i n e, varies_on nodes i n e) refl in
+    ap (λ (o : Option ℕ). after_in o (walk_at nodes i) n) (sym (open_on nodes i n e)) ∙ same

@@ -22,8 +22,8 @@ use Rattle.lg_node.specs.declared.place.Place.TheVariants as place
 use Rattle.lg_node.specs.declared.preparation.Preparation.{Preparation}
 use Rattle.lg_node.specs.Nodes.{LabelledNodes}
 use Rattle.lg_node.specs.Functions.{is_prolog, is_epilog, is_prolog_at, is_epilog_at, home_of, open_before, home}
-use Rattle.lg_node.specs.Preparations.{prepared_behind, prepared_before, pushed_of, varies_before}
-use Rattle.lg_node.specs.Labels.{place_of, is_labelled, is_at, is_entry, is_inside, is_behind_prolog}
+use Rattle.lg_node.specs.Preparations.{prepared_after, prepared_before, pushed_of, varies_before}
+use Rattle.lg_node.specs.Labels.{place_of, is_labelled, is_at, is_entry, is_inside, is_after_prolog}
 use Rattle.lg_node.specs.Checks.{FailsAll, refuses, kinds, may_stand_outside, is_begun, is_astray, any_by_form, needs_preparation, breaks_preparation, is_ellipsis, is_out_of_turn, is_bad_call, is_arg, is_pusharg, pushes_too_many, args_before, IsAccepted}
 use Rattle.lg_node.specs.Walks.{walk_at, IsWithinLimits}
 use Rattle.lg_node.specs.ShapeLaws.{has_target, has_callee, IsTargetIn, IsEntry, JumpsTo, IsWellShaped}
@@ -75,7 +75,7 @@ unbroken_goes_on : (op : Op) → breaks_preparation op ≡ false → is_epilog o
 unbroken_goes_on (Plain plain.Epilog) e = cc
 unbroken_goes_on op e = refl
 
-prepared_from : (o : Option Preparation) (op : Op) (call : Preparation) → prepared_behind o op ≡ Some call → (is_prepare op ≡ true) ⊎ (is_some o ≡ true)
+prepared_from : (o : Option Preparation) (op : Op) (call : Preparation) → prepared_after o op ≡ Some call → (is_prepare op ≡ true) ⊎ (is_some o ≡ true)
 unfolding is_prepare
 prepared_from (Some c) op call e = inr refl
 prepared_from None (Plain plain.Prepare) call e = inl refl
@@ -212,7 +212,7 @@ module _ (l : LabelledNodes) (a : IsAccepted l) where
   target_of_label x p (Some (place.Image k)) at t = cc
   target_of_label x p (Some (place.Node k)) at t = by (home l.nodes k) refl t
     where
-      by : (h : Option ℕ) → home l.nodes k ≡ h → is_behind_prolog h p k ≡ true → IsTargetIn l p (Some (place.Node k))
+      by : (h : Option ℕ) → home l.nodes k ≡ h → is_after_prolog h p k ≡ true → IsTargetIn l p (Some (place.Node k))
       by None e t = cc
       by (Some q) e t =
           let parts = and_parts (q == p) (not (k == p)) t in

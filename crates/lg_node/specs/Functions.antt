@@ -34,17 +34,17 @@ home_at current i None = None
 home_at current i (Some n) = home_of current i n.op
 
 -- the function that is open after a node of this function: none after an `epilog`
-abbrev pub open_behind : Option ℕ → Op → Option ℕ
-open_behind home op = if is_epilog op then None else home
+abbrev pub open_after : Option ℕ → Op → Option ℕ
+open_after home op = if is_epilog op then None else home
 
-abbrev pub open_behind_at : Option ℕ → Option Node → Option ℕ
-open_behind_at home None = home
-open_behind_at home (Some n) = open_behind home n.op
+abbrev pub open_after_at : Option ℕ → Option Node → Option ℕ
+open_after_at home None = home
+open_after_at home (Some n) = open_after home n.op
 
 -- the function that is open before a node
 unfoldable pub open_before : List Node → ℕ → Option ℕ
 open_before nodes zero = None
-open_before nodes (suc i) = open_behind_at (home_at (open_before nodes i) i (slice_get nodes i)) (slice_get nodes i)
+open_before nodes (suc i) = open_after_at (home_at (open_before nodes i) i (slice_get nodes i)) (slice_get nodes i)
 
 -- the function of a node
 unfoldable pub home : List Node → ℕ → Option ℕ

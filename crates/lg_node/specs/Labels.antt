@@ -39,13 +39,13 @@ is_entry nodes (Some (place.Node k)) = is_prolog_at (slice_get nodes k)
 is_entry nodes p = false
 
 -- node k is one of function p after its `prolog`
-abbrev pub is_behind_prolog : Option ℕ → ℕ → ℕ → Bool
-is_behind_prolog None p k = false
-is_behind_prolog (Some q) p k = (q == p) && not (k == p)
+abbrev pub is_after_prolog : Option ℕ → ℕ → ℕ → Bool
+is_after_prolog None p k = false
+is_after_prolog (Some q) p k = (q == p) && not (k == p)
 
 -- the place is a node of function p after its `prolog`
 abbrev pub is_inside : List Node → ℕ → Option Place → Bool
-is_inside nodes p (Some (place.Node k)) = is_behind_prolog (home nodes k) p k
+is_inside nodes p (Some (place.Node k)) = is_after_prolog (home nodes k) p k
 is_inside nodes p o = false
 
 -- node k is one of some function after its `prolog`

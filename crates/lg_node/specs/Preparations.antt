@@ -8,36 +8,36 @@ use Rattle.lg_op.specs.declared.node.Node.{Node}
 use Rattle.lg_node.specs.declared.preparation.Preparation.{Preparation}
 
 -- what is being prepared after an operation
-abbrev pub prepared_behind : Option Preparation → Op → Option Preparation
-prepared_behind current (Plain plain.Prepare) = Some record { pushed = 0; variadic = false }
-prepared_behind current (Control control.Finish last) = None
-prepared_behind (Some call) (Plain plain.Ellipsis) = Some record call { variadic = true }
-prepared_behind (Some call) (Control control.Pusharg last) = Some record call { pushed = call.pushed + 1 }
-prepared_behind current op = current
+abbrev pub prepared_after : Option Preparation → Op → Option Preparation
+prepared_after current (Plain plain.Prepare) = Some record { pushed = 0; variadic = false }
+prepared_after current (Control control.Finish last) = None
+prepared_after (Some call) (Plain plain.Ellipsis) = Some record call { variadic = true }
+prepared_after (Some call) (Control control.Pusharg last) = Some record call { pushed = call.pushed + 1 }
+prepared_after current op = current
 
-abbrev pub prepared_behind_at : Option Preparation → Option Node → Option Preparation
-prepared_behind_at current None = current
-prepared_behind_at current (Some n) = prepared_behind current n.op
+abbrev pub prepared_after_at : Option Preparation → Option Node → Option Preparation
+prepared_after_at current None = current
+prepared_after_at current (Some n) = prepared_after current n.op
 
 -- the call that is being prepared before a node
 unfoldable pub prepared_before : List Node → ℕ → Option Preparation
 prepared_before nodes zero = None
-prepared_before nodes (suc i) = prepared_behind_at (prepared_before nodes i) (slice_get nodes i)
+prepared_before nodes (suc i) = prepared_after_at (prepared_before nodes i) (slice_get nodes i)
 
 -- whether the function that is open has variable arguments, after an operation: its own `ellipsis` came, which is where no call is prepared
-abbrev pub varies_behind : Bool → Option Preparation → Op → Bool
-varies_behind varies call (Plain plain.Prolog) = false
-varies_behind varies None (Plain plain.Ellipsis) = true
-varies_behind varies call op = varies
+abbrev pub varies_after : Bool → Option Preparation → Op → Bool
+varies_after varies call (Plain plain.Prolog) = false
+varies_after varies None (Plain plain.Ellipsis) = true
+varies_after varies call op = varies
 
-abbrev pub varies_behind_at : Bool → Option Preparation → Option Node → Bool
-varies_behind_at varies call None = varies
-varies_behind_at varies call (Some n) = varies_behind varies call n.op
+abbrev pub varies_after_at : Bool → Option Preparation → Option Node → Bool
+varies_after_at varies call None = varies
+varies_after_at varies call (Some n) = varies_after varies call n.op
 
 -- the function that is open before a node has variable arguments
 unfoldable pub varies_before : List Node → ℕ → Bool
 varies_before nodes zero = false
-varies_before nodes (suc i) = varies_behind_at (varies_before nodes i) (prepared_before nodes i) (slice_get nodes i)
+varies_before nodes (suc i) = varies_after_at (varies_before nodes i) (prepared_before nodes i) (slice_get nodes i)
 
 abbrev pub pushed_of : Option Preparation → ℕ
 pushed_of None = 0

@@ -6,8 +6,8 @@ use Rattle.lg_op.specs.declared.op.Op.{Op}
 use Rattle.lg_op.specs.declared.op.Op.TheVariants.{Control, Plain}
 use Rattle.lg_op.specs.declared.operand.Operand.{Operand}
 use Rattle.lg_node.specs.declared.walk.Walk.{Walk}
-use Rattle.lg_node.specs.Functions.{is_prolog, home_of, open_behind, open_before, local_size}
-use Rattle.lg_node.specs.Preparations.{prepared_behind, prepared_before, pushed_of, varies_behind, varies_before}
+use Rattle.lg_node.specs.Functions.{is_prolog, home_of, open_after, open_before, local_size}
+use Rattle.lg_node.specs.Preparations.{prepared_after, prepared_before, pushed_of, varies_after, varies_before}
 use Rattle.lg_node.specs.Checks.{is_label, is_arg, is_begun, args_before, locals_before}
 
 abbrev pub walk_at : List Node → ℕ → Walk
@@ -21,18 +21,18 @@ walk_at nodes i = record {
 }
 
 -- what is known after a node: counts are kept while a function is open
-abbrev pub behind_in : Option ℕ → Walk → Node → Walk
-behind_in function w n = record {
+abbrev pub after_in : Option ℕ → Walk → Node → Walk
+after_in function w n = record {
   function = function;
   begun = w.begun || is_prolog n.op;
   args = if is_some function then w.args + cond (is_arg n.op) 1 0 else 0;
   locals = if is_some function then w.locals + local_size n else 0;
-  call = prepared_behind w.call n.op;
-  varies = varies_behind w.varies w.call n.op;
+  call = prepared_after w.call n.op;
+  varies = varies_after w.varies w.call n.op;
 }
 
-abbrev pub walk_behind : Walk → ℕ → Node → Walk
-walk_behind w i n = behind_in (open_behind (home_of w.function i n.op) n.op) w n
+abbrev pub walk_after : Walk → ℕ → Node → Walk
+walk_after w i n = after_in (open_after (home_of w.function i n.op) n.op) w n
 
 -- what may change it within a function
 abbrev pub is_mark : Op → Bool

@@ -34,7 +34,7 @@ fn label_before(next: &[Option<Label>], first: Label, label: Label) -> Label
 }
 
 // Puts a label after another one of its chain.
-fn put_behind(next: &mut [Option<Label>], before: Label, label: Label)
+fn put_after(next: &mut [Option<Label>], before: Label, label: Label)
     requires before { before.0 < length next.old }
     requires label { label.0 < length next.old }
     ensures { next.new ≡ slice_set (slice_set next.old label.0 (slice_index_or next.old before.0 None)) before.0 (Some label) }
@@ -67,13 +67,13 @@ pub fn link(next: &mut [Option<Label>], ends: Option<Ends>, label: Label) -> End
         };
     }
     if ends.last.0 < label.0 {
-        put_behind(next, ends.last, label);
+        put_after(next, ends.last, label);
         return Ends {
             first: ends.first,
             last: label,
         };
     }
     let before = label_before(next, ends.first, label);
-    put_behind(next, before, label);
+    put_after(next, before, label);
     ends
 }

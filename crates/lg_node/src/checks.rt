@@ -4,7 +4,7 @@ ghost use Rattle.std.specs.Prelude.{◌≡◌, None, Some, Err, length, slice_ge
 ghost use Rattle.lg_base.specs.declared.refusal.Refusal.{Refusal};
 ghost use Rattle.lg_op.specs.Nodes.{InForm};
 ghost use Rattle.lg_node.specs.Tables.{AreTables};
-ghost use Rattle.lg_node.specs.Walks.{walk_at, walk_behind, IsWithinLimits};
+ghost use Rattle.lg_node.specs.Walks.{walk_at, walk_after, IsWithinLimits};
 ghost use Rattle.lg_node.specs.Labels.{taken_labels};
 ghost use Rattle.lg_node.specs.Shapes.{shape_of, IsShapeOf, IsChecked};
 ghost use Rattle.lg_node.specs.Checks.{refusal_at, end_refusal, NoneBefore, IsAccepted, IsRefusedAtNode, IsRefused};
@@ -60,7 +60,7 @@ fn pass_any(
     requires tables { AreTables nodes.now tables.now }
     requires walk { walk.old ≡ walk_at nodes.now.nodes index }
     requires limits { IsWithinLimits walk.old }
-    ensures walk { OnOk result (walk.new ≡ walk_behind walk.old index node.now) }
+    ensures walk { OnOk result (walk.new ≡ walk_after walk.old index node.now) }
     ensures none { OnOk result (refusal_at nodes.now index ≡ None) }
     ensures refused { IfErr result (λ r. refusal_at nodes.now index ≡ Some r) }
 {
@@ -87,7 +87,7 @@ fn pass_node(
     requires tables { AreTables nodes.now tables.now }
     requires walk { walk.old ≡ walk_at nodes.now.nodes index }
     requires limits { IsWithinLimits walk.old }
-    ensures walk { OnOk result (walk.new ≡ walk_behind walk.old index node.now) }
+    ensures walk { OnOk result (walk.new ≡ walk_after walk.old index node.now) }
     ensures none { OnOk result (refusal_at nodes.now index ≡ None) }
     ensures refused { IfErr result (λ r. refusal_at nodes.now index ≡ Some r) }
 {

@@ -6,7 +6,7 @@ ghost use Rattle.lg_node.specs.Tables.{AreHomes, AreMarks, AreTables};
 
 use crate::node_list::NodeList;
 use crate::place::Place;
-use crate::walk::{home_of, open_behind};
+use crate::walk::{home_of, open_after};
 use lg_base::OutOfMemory;
 use lg_op::Label;
 use std::alloc::Global;
@@ -42,7 +42,7 @@ pub fn homes(alloc: Global, nodes: &NodeList) -> Result<Vec<Option<u32>>, OutOfM
         let op = nodes.node_at(index).op;
         let home = home_of(current, index, op);
         homes.push_reserved(home);
-        current = open_behind(home, op);
+        current = open_after(home, op);
     }
     Ok(homes)
 }

@@ -2,10 +2,10 @@
 
 ghost use Rattle.std.specs.Prelude.{◌≡◌, ◌≤◌, false};
 ghost use Rattle.lg_op.specs.Nodes.{InForm};
-ghost use Rattle.lg_node.specs.Functions.{is_prolog, is_epilog, home_of, open_behind, local_size};
-ghost use Rattle.lg_node.specs.Preparations.{prepared_behind, pushed_of, varies_behind};
+ghost use Rattle.lg_node.specs.Functions.{is_prolog, is_epilog, home_of, open_after, local_size};
+ghost use Rattle.lg_node.specs.Preparations.{prepared_after, pushed_of, varies_after};
 ghost use Rattle.lg_node.specs.Checks.{is_arg};
-ghost use Rattle.lg_node.specs.Walks.{is_mark, walk_behind, IsWithinLimits};
+ghost use Rattle.lg_node.specs.Walks.{is_mark, walk_after, IsWithinLimits};
 
 use crate::preparation::Preparation;
 use lg_op::{ControlOp, Node, Op, Operand, PlainOp};
@@ -80,9 +80,9 @@ pub fn local_size(node: &Node) -> u32
 }
 
 // Returns the call that is being prepared after an operation.
-fn prepared_behind(current: Option<Preparation>, op: Op) -> Option<Preparation>
+fn prepared_after(current: Option<Preparation>, op: Op) -> Option<Preparation>
     requires { pushed_of current ≤ 16 }
-    ensures { result ≡ prepared_behind current op }
+    ensures { result ≡ prepared_after current op }
 {
     match (current, op) {
         (_, Op::Plain(PlainOp::Prepare)) => Some(Preparation {
@@ -103,8 +103,8 @@ fn prepared_behind(current: Option<Preparation>, op: Op) -> Option<Preparation>
 }
 
 // Returns whether the open function has variable arguments, after an operation.
-fn varies_behind(varies: bool, call: Option<Preparation>, op: Op) -> bool
-    ensures { result ≡ varies_behind varies call op }
+fn varies_after(varies: bool, call: Option<Preparation>, op: Op) -> bool
+    ensures { result ≡ varies_after varies call op }
 {
     match (call, op) {
         (_, Op::Plain(PlainOp::Prolog)) => false,
@@ -114,8 +114,8 @@ fn varies_behind(varies: bool, call: Option<Preparation>, op: Op) -> bool
 }
 
 /// Returns the function that is open after a node of this function.
-pub fn open_behind(home: Option<u32>, op: Op) -> Option<u32>
-    ensures { result ≡ open_behind home op }
+pub fn open_after(home: Option<u32>, op: Op) -> Option<u32>
+    ensures { result ≡ open_after home op }
 {
     if is_epilog(op) { None } else { home }
 }
@@ -139,9 +139,9 @@ impl Walk {
     fn past(self, index: u32, node: &Node) -> Walk
         requires form { InForm node.now }
         requires limits { IsWithinLimits self }
-        ensures { result ≡ walk_behind self index node.now }
+        ensures { result ≡ walk_after self index node.now }
     {
-        let function = open_behind(home_of(self.function, index, node.op), node.op);
+        let function = open_after(home_of(self.function, index, node.op), node.op);
         let is_open = function.is_some();
         Walk {
             function,
@@ -156,8 +156,8 @@ impl Walk {
             } else {
                 0
             },
-            call: prepared_behind(self.call, node.op),
-            varies: varies_behind(self.varies, self.call, node.op),
+            call: prepared_after(self.call, node.op),
+            varies: varies_after(self.varies, self.call, node.op),
         }
     }
 
@@ -166,7 +166,7 @@ impl Walk {
     fn pass_any(&mut self, index: u32, node: &Node)
         requires form { InForm node.now }
         requires limits { IsWithinLimits self.old }
-        ensures { self.new ≡ walk_behind self.old index node.now }
+        ensures { self.new ≡ walk_after self.old index node.now }
     {
         *self = self.past(index, node);
     }
@@ -177,7 +177,7 @@ impl Walk {
     pub fn pass(&mut self, index: u32, node: &Node)
         requires form { InForm node.now }
         requires limits { IsWithinLimits self.old }
-        ensures { self.new ≡ walk_behind self.old index node.now }
+        ensures { self.new ≡ walk_after self.old index node.now }
     {
         if self.function.is_none() || is_mark(node.op) {
             self.pass_any(index, node);

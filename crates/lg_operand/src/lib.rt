@@ -5,7 +5,7 @@ mod operand;
 mod registers;
 
 pub use operand::{
-    admitted, argument_named, behind_mark, host_operand, local_named, local_size, misfit,
+    admitted, after_mark, argument_named, host_operand, local_named, local_size, misfit,
     register_operand, stays_apart,
 };
 pub use registers::is_float_register;

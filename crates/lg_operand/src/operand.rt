@@ -101,7 +101,7 @@ pub fn local_size(done: &[Operand]) -> u64
 }
 
 /// Returns a text after its mark, which is its first byte.
-pub fn behind_mark(text: &[u8]) -> &[u8]
+pub fn after_mark(text: &[u8]) -> &[u8]
     ensures { result.now ≡ drop 1 text.now }
 {
     match text {
@@ -116,7 +116,7 @@ pub fn misfit(kind: TokenKind, text: &[u8]) -> RefusalKind
 {
     match kind {
         TokenKind::Register if is_float_register(text) => RefusalKind::FloatRefused,
-        TokenKind::Host if HostName::by_name(behind_mark(text)).is_none() =>
+        TokenKind::Host if HostName::by_name(after_mark(text)).is_none() =>
             RefusalKind::UnknownHost,
         _ => RefusalKind::BadOperand,
     }

@@ -25,7 +25,7 @@ use Rattle.lg_node.specs.declared.place.Place.TheVariants as place
 use Rattle.lg_node.specs.declared.preparation.Preparation.{Preparation}
 use Rattle.lg_node.specs.Checks.{FailsAll, refuses, kinds, refusal_of, refusal_at, end_refusal_of, may_stand_outside, is_begun, is_missing, is_astray, any_by_form, is_bad_call, is_too_many, is_too_big, breaks_preparation, args_before, locals_before, IsAccepted}
 use Rattle.lg_node.specs.Functions.{is_prolog, is_prolog_at, is_prolog_node, open_before, home, local_size}
-use Rattle.lg_node.specs.Labels.{place_of, is_labelled, is_code, is_entry, is_inside, is_behind_prolog, takes_address}
+use Rattle.lg_node.specs.Labels.{place_of, is_labelled, is_code, is_entry, is_inside, is_after_prolog, takes_address}
 use Rattle.lg_node.specs.Nodes.{LabelledNodes}
 use Rattle.lg_node.specs.Preparations.{prepared_before, varies_before}
 use Rattle.lg_node.specs.ShapeLaws.{has_target, JumpsTo, IsWellShaped}
@@ -109,10 +109,10 @@ module _ (l : LabelledNodes) (stays : ℕ → Bool) (targets : ℕ → Option La
   pub entry-stays : (k p : ℕ) → home l.nodes k ≡ Some p → stays p ≡ true
   entry-stays k p h = prolog-stays p (w.prologs p (home_between l.nodes k p h p (omega arith) (home_from l.nodes k p h)))
 
-  behind-moved : (k p : ℕ) → home l.nodes k ≡ Some p → p < k → is_behind_prolog (home m.nodes (nu k)) (nu p) (nu k) ≡ true
-  behind-moved k p h lt =
+  after-moved : (k p : ℕ) → home l.nodes k ≡ Some p → p < k → is_after_prolog (home m.nodes (nu k)) (nu p) (nu k) ≡ true
+  after-moved k p h lt =
       let up = number-lt stays p k lt (entry-stays k p h) in
-      ap (λ o. is_behind_prolog o (nu p) (nu k)) (inside-moved k p h lt)
+      ap (λ o. is_after_prolog o (nu p) (nu k)) (inside-moved k p h lt)
       ∙ ap (λ b. b && not (nu k == nu p)) (eq-eqb (nu p) (nu p) refl)
       ∙ ap not (⊎_elim (λ t. let same = t.1 in absurd (omega arith)) (λ t. t.0) (eqb_tells (nu k) (nu p)))
 
@@ -121,7 +121,7 @@ module _ (l : LabelledNodes) (stays : ℕ → Bool) (targets : ℕ → Option La
   is-inside-moved p (Some (place.Image k)) e = cc
   is-inside-moved p (Some (place.Node k)) e = by (home l.nodes k) refl e
     where
-      by : (h : Option ℕ) → home l.nodes k ≡ h → is_behind_prolog h p k ≡ true → is_behind_prolog (home m.nodes (nu k)) (nu p) (nu k) ≡ true
+      by : (h : Option ℕ) → home l.nodes k ≡ h → is_after_prolog h p k ≡ true → is_after_prolog (home m.nodes (nu k)) (nu p) (nu k) ≡ true
       by None h e = cc
       by (Some q) h e =
           let parts = and_parts (q == p) (not (k == p)) e in
@@ -129,7 +129,7 @@ module _ (l : LabelledNodes) (stays : ℕ → Bool) (targets : ℕ → Option La
           let inside : home l.nodes k ≡ Some p = h ∙ ap (λ (x : ℕ). Some x) same in
           let from : p ≤ k = home_from l.nodes k p inside in
           let other : k ≡ p → ⊥ = eqb-false k p (not-true (k == p) parts.1) in
-          behind-moved k p inside (⊎_elim (λ (b : p < k). b) (λ (b : k ≤ p). absurd (other (omega arith))) (cases_lt p k))
+          after-moved k p inside (⊎_elim (λ (b : p < k). b) (λ (b : k ≤ p). absurd (other (omega arith))) (cases_lt p k))
 
   -- ---- operands that are the same
   is-code-moved : (o : Option Place) → is_code (moved_place nu o) ≡ is_code o
@@ -185,7 +185,7 @@ module _ (l : LabelledNodes) (stays : ℕ → Bool) (targets : ℕ → Option La
   -- ---- another target
   target-passes : (h : Option ℕ) (p : Op) (y : Label) → JumpsTo l h (place_of l.places y) → is_astray m (option_map nu h) p form.Target (operand.Label y) ≡ false
   target-passes None p y j = ap not (at-place (is_entry m.nodes) y ∙ ap (λ o. is_entry m.nodes (moved_place nu o)) j.place ∙ prolog-moved j.node (w.prologs j.node j.entry))
-  target-passes (Some q) p y j = ap not (at-place (is_inside m.nodes (nu q)) y ∙ ap (λ o. is_inside m.nodes (nu q) (moved_place nu o)) j.place ∙ behind-moved j.node q j.inside j.behind)
+  target-passes (Some q) p y j = ap not (at-place (is_inside m.nodes (nu q)) y ∙ ap (λ o. is_inside m.nodes (nu q) (moved_place nu o)) j.place ∙ after-moved j.node q j.inside j.behind)
 
   bound : (h : Option ℕ) (o : Option Place) → JumpsTo l h o → is_none o ≡ false
   bound None o j = ap is_none j.place

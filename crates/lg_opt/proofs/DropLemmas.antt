@@ -34,7 +34,7 @@ use Rattle.lg_meaning.proofs.Outcomes.{on_result}
 use Rattle.lg_carry.specs.Carries.{leaps, leaps_at}
 use Rattle.lg_carry.proofs.FallLemmas.{nodes-fall}
 use Rattle.lg_opt.specs.Rewritten.{memory_in}
-use Rattle.lg_opt.specs.Moves.{Move, move_of, move_at, no_sources, is_idle, behind_node, behind_at, sources_before, stays}
+use Rattle.lg_opt.specs.Moves.{Move, move_of, move_at, no_sources, is_idle, after_node, after_at, sources_before, stays}
 use Rattle.lg_opt.specs.Paired.{Pair, Dropped, RestsAt, AreStepped}
 use Rattle.lg_opt.specs.Remaining.{new_number, rewritten, no_targets, origins, may_go, IsRewriting}
 use Rattle.lg_opt.specs.Renumbered.{over, Meets, IsRewritten}
@@ -95,11 +95,11 @@ module _ (l : LabelledNodes) where
       by (Some n) e = let k = idle-there i n e s in ap leaps (move-is n.op n.operands k.move k.is).0
 
   -- no sources after a transfer of control, and at a label
-  fresh-behind : (i : ℕ) (n : Node) → slice_get l.nodes i ≡ Some n → leaps n.op ≡ true → sources_before l (i + 1) ≡ no_sources
+  fresh-after : (i : ℕ) (n : Node) → slice_get l.nodes i ≡ Some n → leaps n.op ≡ true → sources_before l (i + 1) ≡ no_sources
   unfolding sources_before
-  fresh-behind i n e h =
+  fresh-after i n e h =
       ap (sources_before l) (add-one i)
-      ∙ ap (λ f. if is_labelled l.places (suc i) then no_sources else f) (ap (behind_at (sources_before l i)) e ∙ ap (λ b. if b then no_sources else behind_node (sources_before l i) n (move_of n.op n.operands)) h)
+      ∙ ap (λ f. if is_labelled l.places (suc i) then no_sources else f) (ap (after_at (sources_before l i)) e ∙ ap (λ b. if b then no_sources else after_node (sources_before l i) n (move_of n.op n.operands)) h)
       ∙ by (is_labelled l.places (suc i))
     where
       by : (b : Bool) → (if b then no_sources else no_sources) ≡ no_sources
@@ -109,14 +109,14 @@ module _ (l : LabelledNodes) where
   fresh-at : (k : ℕ) → is_labelled l.places k ≡ true → sources_before l k ≡ no_sources
   unfolding sources_before
   fresh-at zero h = refl
-  fresh-at (suc k) h = ap (λ b. if b then no_sources else behind_at (sources_before l k) (slice_get l.nodes k)) h
+  fresh-at (suc k) h = ap (λ b. if b then no_sources else after_at (sources_before l k) (slice_get l.nodes k)) h
 
-  next-sources : (i : ℕ) (n : Node) → slice_get l.nodes i ≡ Some n → leaps n.op ≡ false → is_labelled l.places (i + 1) ≡ false → sources_before l (i + 1) ≡ behind_node (sources_before l i) n (move_of n.op n.operands)
+  next-sources : (i : ℕ) (n : Node) → slice_get l.nodes i ≡ Some n → leaps n.op ≡ false → is_labelled l.places (i + 1) ≡ false → sources_before l (i + 1) ≡ after_node (sources_before l i) n (move_of n.op n.operands)
   unfolding sources_before
   next-sources i n e h free =
       ap (sources_before l) (add-one i)
-      ∙ ap (λ b. if b then no_sources else behind_at (sources_before l i) (slice_get l.nodes i)) (ap (is_labelled l.places) (sym (add-one i)) ∙ free)
-      ∙ ap (behind_at (sources_before l i)) e ∙ ap (λ b. if b then no_sources else behind_node (sources_before l i) n (move_of n.op n.operands)) h
+      ∙ ap (λ b. if b then no_sources else after_at (sources_before l i) (slice_get l.nodes i)) (ap (is_labelled l.places) (sym (add-one i)) ∙ free)
+      ∙ ap (after_at (sources_before l i)) e ∙ ap (λ b. if b then no_sources else after_node (sources_before l i) n (move_of n.op n.operands)) h
 
   no-sources : (t : State) → AreSources t no_sources
   no-sources t x y e = cc
@@ -147,10 +147,10 @@ module _ (l : LabelledNodes) where
         back f fs e at =
             let linked : AreLinked l shape s.frame (f ∷ fs) = subst (AreLinked l shape s.frame) e good.0.fits.linked in
             let c = linked.0 in
-            to-node (c.at + 1) (at ∙ c.back) (fresh-behind c.at c.node c.here (call-leaps c.node.op c.calls))
+            to-node (c.at + 1) (at ∙ c.back) (fresh-after c.at c.node c.here (call-leaps c.node.op c.calls))
 
         arrived : leaps n.0.op ≡ true → Arrives l s t → AreSources t (sources_before l t.at)
-        arrived h (inl e) = to-node (s.at + 1) e (fresh-behind s.at n.0 n.1 h)
+        arrived h (inl e) = to-node (s.at + 1) e (fresh-after s.at n.0 n.1 h)
         arrived h (inr (inl e)) = at-fresh t (fresh-at t.at e)
         arrived h (inr (inr e)) = back e.1 e.2 e.3 e.0
 

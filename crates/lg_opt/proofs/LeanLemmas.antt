@@ -10,7 +10,7 @@ use Rattle.lg_node.specs.Labels.{is_labelled}
 use Rattle.lg_node.proofs.FunctionLaws.{node_within}
 use Rattle.lg_opt.specs.Remaining.{new_number, labelled_from}
 use Rattle.lg_carry.specs.Carries.{leaps}
-use Rattle.lg_opt.specs.Moves.{Move, no_sources, is_idle, move_of, move_at, behind_move, behind_node, behind_at, sources_before, is_idle_at, stays}
+use Rattle.lg_opt.specs.Moves.{Move, no_sources, is_idle, move_of, move_at, after_move, after_node, after_at, sources_before, is_idle_at, stays}
 use Rattle.lg_opt.proofs.MovedLemmas.{comes-from}
 use Rattle.lg_opt.proofs.RemainingLemmas.{number-stays, number-goes}
 use Rattle.lg_opt.proofs.TidyLemmas.{move-is}
@@ -22,11 +22,11 @@ pub record KeepsNodes (l m : LabelledNodes) : Type 0 where
   pub count : length m.nodes ≡ new_number (stays l) (length l.nodes)
 
 -- the sources after the node before one
-abbrev behind-last : LabelledNodes → ℕ → Reg → Option Reg
-behind-last m zero = no_sources
-behind-last m (suc q) = behind_at (sources_before m q) (slice_get m.nodes q)
+abbrev after-last : LabelledNodes → ℕ → Reg → Option Reg
+after-last m zero = no_sources
+after-last m (suc q) = after_at (sources_before m q) (slice_get m.nodes q)
 
-sources-here : (m : LabelledNodes) (k : ℕ) → sources_before m k ≡ (if is_labelled m.places k then no_sources else behind-last m k)
+sources-here : (m : LabelledNodes) (k : ℕ) → sources_before m k ≡ (if is_labelled m.places k then no_sources else after-last m k)
 unfolding sources_before
 sources-here m zero = by (is_labelled m.places 0)
   where
@@ -43,24 +43,24 @@ module _ (l m : LabelledNodes) (keeps : KeepsNodes l m) where
   nu = new_number (stays l)
 
   -- an idle move changes no sources
-  idle-behind : (i : ℕ) (n : Node) → slice_get l.nodes i ≡ Some n → stays l i ≡ false → behind_at (sources_before l i) (slice_get l.nodes i) ≡ sources_before l i
-  idle-behind i n here gone = ap (behind_at (sources_before l i)) here ∙ by (move_of n.op n.operands) refl
+  idle-after : (i : ℕ) (n : Node) → slice_get l.nodes i ≡ Some n → stays l i ≡ false → after_at (sources_before l i) (slice_get l.nodes i) ≡ sources_before l i
+  idle-after i n here gone = ap (after_at (sources_before l i)) here ∙ by (move_of n.op n.operands) refl
     where
       idle : is_idle (sources_before l i) (move_of n.op n.operands) ≡ true
       idle = not-false (is_idle (sources_before l i) (move_of n.op n.operands)) (ap (λ o. not (is_idle (sources_before l i) (move_at o))) (sym here) ∙ gone)
 
-      by : (o : Option Move) → move_of n.op n.operands ≡ o → (if leaps n.op then no_sources else behind_node (sources_before l i) n (move_of n.op n.operands)) ≡ sources_before l i
+      by : (o : Option Move) → move_of n.op n.operands ≡ o → (if leaps n.op then no_sources else after_node (sources_before l i) n (move_of n.op n.operands)) ≡ sources_before l i
       by None e = absurd (true≢false (sym idle ∙ ap (is_idle (sources_before l i)) e))
       by (Some k) e =
-          ap (λ b. if b then no_sources else behind_node (sources_before l i) n (move_of n.op n.operands)) (move-falls n k e)
-          ∙ ap (behind_node (sources_before l i) n) e
-          ∙ ap (λ b. if b then sources_before l i else behind_move (sources_before l i) n k) (sym (ap (is_idle (sources_before l i)) e) ∙ idle)
+          ap (λ b. if b then no_sources else after_node (sources_before l i) n (move_of n.op n.operands)) (move-falls n k e)
+          ∙ ap (after_node (sources_before l i) n) e
+          ∙ ap (λ b. if b then sources_before l i else after_move (sources_before l i) n k) (sym (ap (is_idle (sources_before l i)) e) ∙ idle)
 
   abbrev Walks : ℕ → Type 0
-  Walks i = sources_before l i ≡ (if labelled_from l.places (stays l) i then no_sources else behind-last m (nu i))
+  Walks i = sources_before l i ≡ (if labelled_from l.places (stays l) i then no_sources else after-last m (nu i))
 
   same-there : (i : ℕ) → i < length l.nodes → stays l i ≡ true → Walks i → sources_before m (nu i) ≡ sources_before l i
-  same-there i lt s w = sources-here m (nu i) ∙ ap (λ b. if b then no_sources else behind-last m (nu i)) (keeps.labels i lt s) ∙ sym w
+  same-there i lt s w = sources-here m (nu i) ∙ ap (λ b. if b then no_sources else after-last m (nu i)) (keeps.labels i lt s) ∙ sym w
 
   walks : (i : ℕ) → i ≤ length l.nodes → Walks i
   unfolding sources_before new_number
@@ -82,18 +82,18 @@ module _ (l m : LabelledNodes) (keeps : KeepsNodes l m) where
       by true s w =
           let lt : i < length l.nodes = omega arith in
           let up : nu (suc i) ≡ suc (nu i) = number-stays (stays l) i s ∙ add-one (nu i) in
-          let step : behind_at (sources_before l i) (slice_get l.nodes i) ≡ behind-last m (nu (suc i)) =
-          ap (λ f. behind_at f (slice_get l.nodes i)) (sym (same-there i lt s w))
-          ∙ ap (behind_at (sources_before m (nu i))) (here.1 ∙ sym (keeps.nodes i here.0 here.1 s))
-          ∙ ap (behind-last m) (sym up) in
+          let step : after_at (sources_before l i) (slice_get l.nodes i) ≡ after-last m (nu (suc i)) =
+          ap (λ f. after_at f (slice_get l.nodes i)) (sym (same-there i lt s w))
+          ∙ ap (after_at (sources_before m (nu i))) (here.1 ∙ sym (keeps.nodes i here.0 here.1 s))
+          ∙ ap (after-last m) (sym up) in
           ap (λ x. if is_labelled l.places (suc i) then no_sources else x) step
-          ∙ join (is_labelled l.places (suc i)) false (behind-last m (nu (suc i))) (behind-last m (nu (suc i))) refl
-          ∙ ap (λ c. if is_labelled l.places (suc i) || (if c then false else labelled_from l.places (stays l) i) then no_sources else behind-last m (nu (suc i))) (sym s)
+          ∙ join (is_labelled l.places (suc i)) false (after-last m (nu (suc i))) (after-last m (nu (suc i))) refl
+          ∙ ap (λ c. if is_labelled l.places (suc i) || (if c then false else labelled_from l.places (stays l) i) then no_sources else after-last m (nu (suc i))) (sym s)
       by false s w =
           let up : nu (suc i) ≡ nu i = number-goes (stays l) i s in
-          ap (λ x. if is_labelled l.places (suc i) then no_sources else x) (idle-behind i here.0 here.1 s)
-          ∙ join (is_labelled l.places (suc i)) (labelled_from l.places (stays l) i) (sources_before l i) (behind-last m (nu (suc i))) (w ∙ ap (λ k. if labelled_from l.places (stays l) i then no_sources else behind-last m k) (sym up))
-          ∙ ap (λ c. if is_labelled l.places (suc i) || (if c then false else labelled_from l.places (stays l) i) then no_sources else behind-last m (nu (suc i))) (sym s)
+          ap (λ x. if is_labelled l.places (suc i) then no_sources else x) (idle-after i here.0 here.1 s)
+          ∙ join (is_labelled l.places (suc i)) (labelled_from l.places (stays l) i) (sources_before l i) (after-last m (nu (suc i))) (w ∙ ap (λ k. if labelled_from l.places (stays l) i then no_sources else after-last m k) (sym up))
+          ∙ ap (λ c. if is_labelled l.places (suc i) || (if c then false else labelled_from l.places (stays l) i) then no_sources else after-last m (nu (suc i))) (sym s)
 
   at-kept : (i : ℕ) (n : Node) → slice_get l.nodes i ≡ Some n → stays l i ≡ true → is_idle_at m (nu i) ≡ false
   at-kept i n here s =

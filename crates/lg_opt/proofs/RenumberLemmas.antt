@@ -16,7 +16,7 @@ use Rattle.lg_node.specs.Functions.{is_prolog_at, functions}
 use Rattle.lg_node.specs.Nodes.{LabelledNodes}
 use Rattle.lg_node.specs.Shapes.{TextShape}
 use Rattle.lg_meaning.specs.Addresses.{BeginsAt, AreAddresses}
-use Rattle.lg_meaning.specs.Steps.{Text, later, landing, last_landing, function_here, is_behind, is_target, jump_target, begins, is_entry_label, entry_target}
+use Rattle.lg_meaning.specs.Steps.{Text, later, landing, last_landing, function_here, is_after, is_target, jump_target, begins, is_entry_label, entry_target}
 use Rattle.lg_meaning.specs.Texts.{text}
 use Rattle.lg_opt.specs.Remaining.{new_number, moved_place, rewritten, IsRewriting}
 use Rattle.lg_opt.specs.Renumbered.{moved_function, Renumbers}
@@ -160,8 +160,8 @@ module _ (l : LabelledNodes) (stays : ℕ → Bool) (targets : ℕ → Option La
   u = record { addresses = A; places = m.places; functions = functions m.nodes; taken = taken }
 
   -- nodes of a function after its `prolog`
-  behind-same : (f : Function) (k : ℕ) → stays f.entry ≡ true → stays f.last ≡ true → is_behind (Some (moved_function nu f)) (nu k) ≡ is_behind (Some f) k
-  behind-same f k first last =
+  after-same : (f : Function) (k : ℕ) → stays f.entry ≡ true → stays f.last ≡ true → is_after (Some (moved_function nu f)) (nu k) ≡ is_after (Some f) k
+  after-same f k first last =
       ap (λ b. b && nat_le (nu k) (nu f.last)) (⊎_elim
       (λ x. lt-ltb (nu f.entry) (nu k) (number-lt stays f.entry k (let z = x.1 in omega arith) first) ∙ sym x.0)
       (λ x. le-ltb (nu f.entry) (nu k) (number-le stays k f.entry (let z = x.1 in omega arith)) ∙ sym x.0)
@@ -181,7 +181,7 @@ module _ (l : LabelledNodes) (stays : ℕ → Bool) (targets : ℕ → Option La
       by : (o : Option Function) → function_here (functions l.nodes) i ≡ o → jump_target u (nu i) w ≡ Some (nu k)
       by None h =
           let at = last-at (is_target t i) l.places A w (length l.places) k e in
-          absurd (never (slice_index_or taken at.label false) (sym (ap (λ o. slice_index_or taken at.label false && is_behind o k) h) ∙ at.lands.passes))
+          absurd (never (slice_index_or taken at.label false) (sym (ap (λ o. slice_index_or taken at.label false && is_after o k) h) ∙ at.lands.passes))
       by (Some f) h =
           let is = function-is l a i f h in
           let first = prolog-stays l stays targets r a f.entry is.begins in
@@ -189,7 +189,7 @@ module _ (l : LabelledNodes) (stays : ℕ → Bool) (targets : ℕ → Option La
           let there = function-moved l stays targets r a i f h in
           ap (last_landing (is_target u (nu i)) m.places A w) (length-map l.places (moved_place nu))
           ∙ last-moved nu (number-le stays) (is_target t i) (is_target u (nu i)) l.places A w
-          (λ x j b. ap (λ o. slice_index_or taken x false && is_behind o (nu j)) there ∙ ap (λ c. slice_index_or taken x false && c) (behind-same f j first last) ∙ sym (ap (λ o. slice_index_or taken x false && is_behind o j) h))
+          (λ x j b. ap (λ o. slice_index_or taken x false && is_after o (nu j)) there ∙ ap (λ c. slice_index_or taken x false && c) (after-same f j first last) ∙ sym (ap (λ o. slice_index_or taken x false && is_after o j) h))
           (length l.places)
           ∙ ap (option_map nu) e
 

@@ -16,9 +16,9 @@ use Rattle.lg_node.specs.declared.preparation.Preparation.{Preparation}
 use Rattle.lg_node.specs.declared.walk.Walk.{Walk}
 use Rattle.lg_node.specs.Nodes.{LabelledNodes}
 use Rattle.lg_node.specs.Checks.{is_arg, is_arg_node, is_begun, args_before, locals_before}
-use Rattle.lg_node.specs.Functions.{is_prolog, is_epilog, home_of, open_behind, open_before, home, since, local_of, local_size}
-use Rattle.lg_node.specs.Preparations.{prepared_behind, prepared_before, varies_behind, varies_before}
-use Rattle.lg_node.specs.Walks.{walk_at, walk_behind}
+use Rattle.lg_node.specs.Functions.{is_prolog, is_epilog, home_of, open_after, open_before, home, since, local_of, local_size}
+use Rattle.lg_node.specs.Preparations.{prepared_after, prepared_before, varies_after, varies_before}
+use Rattle.lg_node.specs.Walks.{walk_at, walk_after}
 use Rattle.lg_node.proofs.FunctionLaws.{node_within}
 use Rattle.lg_node.proofs.WalkLemmas.{home_here, walk_start, walk_on}
 use Rattle.lg_opt.specs.Remaining.{new_number, retargeted, rewritten, may_go, IsRewriting}
@@ -32,8 +32,8 @@ after f w p size = record {
   begun = w.begun || is_prolog p;
   args = if is_some f then w.args + cond (is_arg p) 1 0 else 0;
   locals = if is_some f then w.locals + size else 0;
-  call = prepared_behind w.call p;
-  varies = varies_behind w.varies w.call p;
+  call = prepared_after w.call p;
+  varies = varies_after w.varies w.call p;
 }
 
 abbrev built : Option ℕ → Bool → ℕ → ℕ → Option Preparation → Bool → Walk
@@ -48,80 +48,80 @@ record IsPlain (p : Op) (xs : List Operand) : Type 0 where
   epilog : is_epilog p ≡ false
   arg : is_arg p ≡ false
   local : local_of p xs ≡ 0
-  call : (c : Option Preparation) → prepared_behind c p ≡ c
-  varies : (v : Bool) (c : Option Preparation) → varies_behind v c p ≡ v
+  call : (c : Option Preparation) → prepared_after c p ≡ c
+  varies : (v : Bool) (c : Option Preparation) → varies_after v c p ≡ v
 
 plain : (p : Op) (xs : List Operand) → may_go p ≡ true → IsPlain p xs
 plain (op.Binary o last) xs e = record { prolog = refl; epilog = refl; arg = refl; local = refl; call = λ c. same c; varies = λ v c. as-before v c }
   where
-    as-before : (v : Bool) (c : Option Preparation) → varies_behind v c (op.Binary o last) ≡ v
+    as-before : (v : Bool) (c : Option Preparation) → varies_after v c (op.Binary o last) ≡ v
     as-before v None = refl
     as-before v (Some c) = refl
 
-    same : (c : Option Preparation) → prepared_behind c (op.Binary o last) ≡ c
+    same : (c : Option Preparation) → prepared_after c (op.Binary o last) ≡ c
     same None = refl
     same (Some c) = refl
 plain (op.Wide o last) xs e = record { prolog = refl; epilog = refl; arg = refl; local = refl; call = λ c. same c; varies = λ v c. as-before v c }
   where
-    as-before : (v : Bool) (c : Option Preparation) → varies_behind v c (op.Wide o last) ≡ v
+    as-before : (v : Bool) (c : Option Preparation) → varies_after v c (op.Wide o last) ≡ v
     as-before v None = refl
     as-before v (Some c) = refl
 
-    same : (c : Option Preparation) → prepared_behind c (op.Wide o last) ≡ c
+    same : (c : Option Preparation) → prepared_after c (op.Wide o last) ≡ c
     same None = refl
     same (Some c) = refl
 plain (op.Unary o) xs e = record { prolog = refl; epilog = refl; arg = refl; local = refl; call = λ c. same c; varies = λ v c. as-before v c }
   where
-    as-before : (v : Bool) (c : Option Preparation) → varies_behind v c (op.Unary o) ≡ v
+    as-before : (v : Bool) (c : Option Preparation) → varies_after v c (op.Unary o) ≡ v
     as-before v None = refl
     as-before v (Some c) = refl
 
-    same : (c : Option Preparation) → prepared_behind c (op.Unary o) ≡ c
+    same : (c : Option Preparation) → prepared_after c (op.Unary o) ≡ c
     same None = refl
     same (Some c) = refl
 plain (op.Plain plains.Movi) xs e = record { prolog = refl; epilog = refl; arg = refl; local = refl; call = λ c. same c; varies = λ v c. as-before v c }
   where
-    as-before : (v : Bool) (c : Option Preparation) → varies_behind v c (op.Plain plains.Movi) ≡ v
+    as-before : (v : Bool) (c : Option Preparation) → varies_after v c (op.Plain plains.Movi) ≡ v
     as-before v None = refl
     as-before v (Some c) = refl
 
-    same : (c : Option Preparation) → prepared_behind c (op.Plain plains.Movi) ≡ c
+    same : (c : Option Preparation) → prepared_after c (op.Plain plains.Movi) ≡ c
     same None = refl
     same (Some c) = refl
 plain (op.Load ty at) xs e = record { prolog = refl; epilog = refl; arg = refl; local = refl; call = λ c. same c; varies = λ v c. as-before v c }
   where
-    as-before : (v : Bool) (c : Option Preparation) → varies_behind v c (op.Load ty at) ≡ v
+    as-before : (v : Bool) (c : Option Preparation) → varies_after v c (op.Load ty at) ≡ v
     as-before v None = refl
     as-before v (Some c) = refl
 
-    same : (c : Option Preparation) → prepared_behind c (op.Load ty at) ≡ c
+    same : (c : Option Preparation) → prepared_after c (op.Load ty at) ≡ c
     same None = refl
     same (Some c) = refl
 plain (op.Retval ty) xs e = record { prolog = refl; epilog = refl; arg = refl; local = refl; call = λ c. same c; varies = λ v c. as-before v c }
   where
-    as-before : (v : Bool) (c : Option Preparation) → varies_behind v c (op.Retval ty) ≡ v
+    as-before : (v : Bool) (c : Option Preparation) → varies_after v c (op.Retval ty) ≡ v
     as-before v None = refl
     as-before v (Some c) = refl
 
-    same : (c : Option Preparation) → prepared_behind c (op.Retval ty) ≡ c
+    same : (c : Option Preparation) → prepared_after c (op.Retval ty) ≡ c
     same None = refl
     same (Some c) = refl
 plain (op.Getarg ty) xs e = record { prolog = refl; epilog = refl; arg = refl; local = refl; call = λ c. same c; varies = λ v c. as-before v c }
   where
-    as-before : (v : Bool) (c : Option Preparation) → varies_behind v c (op.Getarg ty) ≡ v
+    as-before : (v : Bool) (c : Option Preparation) → varies_after v c (op.Getarg ty) ≡ v
     as-before v None = refl
     as-before v (Some c) = refl
 
-    same : (c : Option Preparation) → prepared_behind c (op.Getarg ty) ≡ c
+    same : (c : Option Preparation) → prepared_after c (op.Getarg ty) ≡ c
     same None = refl
     same (Some c) = refl
 plain (op.Control control.Jmp last_operand.Immediate) xs e = record { prolog = refl; epilog = refl; arg = refl; local = refl; call = λ c. same c; varies = λ v c. as-before v c }
   where
-    as-before : (v : Bool) (c : Option Preparation) → varies_behind v c (op.Control control.Jmp last_operand.Immediate) ≡ v
+    as-before : (v : Bool) (c : Option Preparation) → varies_after v c (op.Control control.Jmp last_operand.Immediate) ≡ v
     as-before v None = refl
     as-before v (Some c) = refl
 
-    same : (c : Option Preparation) → prepared_behind c (op.Control control.Jmp last_operand.Immediate) ≡ c
+    same : (c : Option Preparation) → prepared_after c (op.Control control.Jmp last_operand.Immediate) ≡ c
     same None = refl
     same (Some c) = refl
 plain p xs e = cc
@@ -149,24 +149,24 @@ goes-no-epilog (op.Control control.Jmp last_operand.Immediate) e = refl
 goes-no-epilog p e = cc
 
 -- so it changes nothing of what is known
-unchanged : (w : Walk) (i : ℕ) (p : Op) (xs : List Operand) → IsPlain p xs → (w.function ≡ None → (w.args ≡ 0) × (w.locals ≡ 0)) → after (open_behind (home_of w.function i p) p) w p (local_of p xs) ≡ w
+unchanged : (w : Walk) (i : ℕ) (p : Op) (xs : List Operand) → IsPlain p xs → (w.function ≡ None → (w.args ≡ 0) × (w.locals ≡ 0)) → after (open_after (home_of w.function i p) p) w p (local_of p xs) ≡ w
 unchanged w i p xs h none =
-    built-same _ w.function _ w.begun _ w.args _ w.locals (prepared_behind w.call p) (varies_behind w.varies w.call p) same-open (ap (λ b. w.begun || b) h.prolog ∙ or-false w.begun) (args w.function refl) (locals w.function refl)
-    ∙ ap (λ c. built w.function w.begun w.args w.locals c (varies_behind w.varies w.call p)) (h.call w.call)
+    built-same _ w.function _ w.begun _ w.args _ w.locals (prepared_after w.call p) (varies_after w.varies w.call p) same-open (ap (λ b. w.begun || b) h.prolog ∙ or-false w.begun) (args w.function refl) (locals w.function refl)
+    ∙ ap (λ c. built w.function w.begun w.args w.locals c (varies_after w.varies w.call p)) (h.call w.call)
     ∙ ap (built w.function w.begun w.args w.locals w.call) (h.varies w.varies w.call)
   where
     open-of : (f : Option ℕ) → home_of f i p ≡ f
     open-of None = ap (λ b. if b then Some i else None) h.prolog
     open-of (Some q) = refl
 
-    same-open : open_behind (home_of w.function i p) p ≡ w.function
+    same-open : open_after (home_of w.function i p) p ≡ w.function
     same-open = ap (λ b. if b then None else home_of w.function i p) h.epilog ∙ open-of w.function
 
-    args : (f : Option ℕ) → w.function ≡ f → (if is_some (open_behind (home_of w.function i p) p) then w.args + cond (is_arg p) 1 0 else 0) ≡ w.args
+    args : (f : Option ℕ) → w.function ≡ f → (if is_some (open_after (home_of w.function i p) p) then w.args + cond (is_arg p) 1 0 else 0) ≡ w.args
     args None e = ap (λ o. if is_some o then w.args + cond (is_arg p) 1 0 else 0) (same-open ∙ e) ∙ sym (none e).0
     args (Some q) e = ap (λ o. if is_some o then w.args + cond (is_arg p) 1 0 else 0) (same-open ∙ e) ∙ ap (λ b. w.args + cond b 1 0) h.arg ∙ add-zero w.args
 
-    locals : (f : Option ℕ) → w.function ≡ f → (if is_some (open_behind (home_of w.function i p) p) then w.locals + local_of p xs else 0) ≡ w.locals
+    locals : (f : Option ℕ) → w.function ≡ f → (if is_some (open_after (home_of w.function i p) p) then w.locals + local_of p xs else 0) ≡ w.locals
     locals None e = ap (λ o. if is_some o then w.locals + local_of p xs else 0) (same-open ∙ e) ∙ sym (none e).1
     locals (Some q) e = ap (λ o. if is_some o then w.locals + local_of p xs else 0) (same-open ∙ e) ∙ ap (λ s. w.locals + s) h.local ∙ add-zero w.locals
 
@@ -186,19 +186,19 @@ module _ (nu : ℕ → ℕ) where
       by true = refl
       by false = refl
 
-  behind-moved : (o : Option ℕ) (p : Op) → open_behind (option_map nu o) p ≡ option_map nu (open_behind o p)
-  behind-moved o p = by (is_epilog p)
+  after-moved : (o : Option ℕ) (p : Op) → open_after (option_map nu o) p ≡ option_map nu (open_after o p)
+  after-moved o p = by (is_epilog p)
     where
       by : (b : Bool) → (if b then None else option_map nu o) ≡ option_map nu (if b then None else o)
       by true = refl
       by false = refl
 
-  went : (w : Walk) (i : ℕ) (n k : Node) → k.op ≡ n.op → local_size k ≡ local_size n → walk_behind (moved-walk w) (nu i) k ≡ moved-walk (walk_behind w i n)
+  went : (w : Walk) (i : ℕ) (n k : Node) → k.op ≡ n.op → local_size k ≡ local_size n → walk_after (moved-walk w) (nu i) k ≡ moved-walk (walk_after w i n)
   went w i n k same size =
-      ap (λ p. after (open_behind (home_of (option_map nu w.function) (nu i) p) p) w p (local_size k)) same
-      ∙ ap (λ s. after (open_behind (home_of (option_map nu w.function) (nu i) n.op) n.op) w n.op s) size
-      ∙ ap (λ f. after f w n.op (local_size n)) (ap (λ o. open_behind o n.op) (home-of-moved w.function i n.op) ∙ behind-moved (home_of w.function i n.op) n.op)
-      ∙ by (open_behind (home_of w.function i n.op) n.op)
+      ap (λ p. after (open_after (home_of (option_map nu w.function) (nu i) p) p) w p (local_size k)) same
+      ∙ ap (λ s. after (open_after (home_of (option_map nu w.function) (nu i) n.op) n.op) w n.op s) size
+      ∙ ap (λ f. after f w n.op (local_size n)) (ap (λ o. open_after o n.op) (home-of-moved w.function i n.op) ∙ after-moved (home_of w.function i n.op) n.op)
+      ∙ by (open_after (home_of w.function i n.op) n.op)
     where
       by : (f : Option ℕ) → after (option_map nu f) w n.op (local_size n) ≡ moved-walk (after f w n.op (local_size n))
       by None = refl
@@ -221,7 +221,7 @@ module _ (l : LabelledNodes) (stays : ℕ → Bool) (targets : ℕ → Option La
           let size = same-size (targets i) n.0 (λ y e. (r.leads i n.0 y n.1 e).0) in
           ap (walk_at m.nodes) (number-stays stays i s)
           ∙ sym (walk_on m.nodes (nu i) k (stands l stays targets i n.0 n.1 s))
-          ∙ ap (λ w. walk_behind w (nu i) k) h
+          ∙ ap (λ w. walk_after w (nu i) k) h
           ∙ went nu (walk_at l.nodes i) i n.0 k (same-op (targets i) n.0) size
           ∙ ap (moved-walk nu) (walk_on l.nodes i n.0 n.1 ∙ ap (walk_at l.nodes) (add-one i))
       by false s n h =

@@ -203,8 +203,8 @@ module _ (p : Pair) (h : Threaded) (th : IsThreadedBy p h) where
     n-next i = iter-suc (run_step (new_step p)) i (run_at m0 [])
 
     -- the old run after a jump
-    behind-jump : (k : ℕ) → (o-at k).status ≡ Running → jump_at p.old (at k) ≡ true → at (suc k) ≡ hop p.old (at k)
-    behind-jump k run e = ap (λ r. r.state.at) (o-next k ∙ goes (old_step p) (o-at k) run ∙ ap (behind (o-at k)) (old-jump p.old p.old_shape p.addresses (o-at k).state e))
+    after-jump : (k : ℕ) → (o-at k).status ≡ Running → jump_at p.old (at k) ≡ true → at (suc k) ≡ hop p.old (at k)
+    after-jump k run e = ap (λ r. r.state.at) (o-next k ∙ goes (old_step p) (o-at k) run ∙ ap (behind (o-at k)) (old-jump p.old p.old_shape p.addresses (o-at k).state e))
 
     moved : (k : ℕ) → moves p.old h (o-at k).state (n-at (j k)).state ≡ true → j (suc k) ≡ suc (j k)
     moved k e = moved-on p Inside R (moves p.old h) stepped s0 m0 good alike k e
@@ -278,11 +278,11 @@ module _ (p : Pair) (h : Threaded) (th : IsThreadedBy p h) where
       next = onward;
       leads = λ k run e f. (leads-at k run e f (moves p.old h (o-at k).state (n-at (j k)).state) refl).0;
       led = λ k run e f.
-          let next = behind-jump k run e in
+          let next = after-jump k run e in
           let w = th.ends (at k) e f in
           ((leads-at k run e f (moves p.old h (o-at k).state (n-at (j k)).state) refl).1, ap h.turns next ∙ w.0, subst (λ i. h.depth i < h.depth (at k)) (sym next) w.1);
       turns = λ k run e f.
-          let next = behind-jump k run e in
+          let next = after-jump k run e in
           let w = th.turning (at k) e f in
           let mv = moves-is (o-at k).state (n-at (j k)).state true true e f in (
             λ st. loud-jump k run e st (placed k run ∙ at-number (at k) (states k run).at (states k run).lands (inr f)) (mv ∙ st),

@@ -14,7 +14,7 @@ use Rattle.lg_live.specs.Uses.{is_written}
 use Rattle.lg_node.specs.Nodes.{LabelledNodes}
 use Rattle.lg_node.specs.Labels.{is_labelled}
 use Rattle.lg_carry.specs.Carries.{leaps}
-use Rattle.lg_opt.specs.Moves.{Move, is_equal, move_of, no_sources, unless_written, behind_other, behind_move, is_source, is_idle, behind_node, behind_at, sources_before, move_at, is_idle_at, IsMovedBefore, HasNoIdleMoves}
+use Rattle.lg_opt.specs.Moves.{Move, is_equal, move_of, no_sources, unless_written, after_other, after_move, is_source, is_idle, after_node, after_at, sources_before, move_at, is_idle_at, IsMovedBefore, HasNoIdleMoves}
 
 pub equal-self : (r : Reg) → is_equal r r ≡ true
 equal-self R0 = refl
@@ -55,39 +55,39 @@ module _ (l : LabelledNodes) (written : (i : ℕ) (n : Node) (m : Move) → slic
   at-node i = sources_before l i
 
   -- the sources after a node of a straight run
-  behind-straight : (i : ℕ) (n : Node) → slice_get l.nodes i ≡ Some n → leaps n.op ≡ false → is_labelled l.places (suc i) ≡ false → sources_before l (suc i) ≡ behind_node (sources_before l i) n (move_of n.op n.operands)
+  after-straight : (i : ℕ) (n : Node) → slice_get l.nodes i ≡ Some n → leaps n.op ≡ false → is_labelled l.places (suc i) ≡ false → sources_before l (suc i) ≡ after_node (sources_before l i) n (move_of n.op n.operands)
   unfolding sources_before
-  behind-straight i n here falls free =
-      ap (λ b. if b then no_sources else behind_at (sources_before l i) (slice_get l.nodes i)) free
-      ∙ ap (behind_at (sources_before l i)) here
-      ∙ ap (λ b. if b then no_sources else behind_node (sources_before l i) n (move_of n.op n.operands)) falls
+  after-straight i n here falls free =
+      ap (λ b. if b then no_sources else after_at (sources_before l i) (slice_get l.nodes i)) free
+      ∙ ap (after_at (sources_before l i)) here
+      ∙ ap (λ b. if b then no_sources else after_node (sources_before l i) n (move_of n.op n.operands)) falls
 
   not-idle : (i : ℕ) (n : Node) (m : Move) → slice_get l.nodes i ≡ Some n → move_of n.op n.operands ≡ Some m → is_idle (sources_before l i) (Some m) ≡ false
   not-idle i n m here e = ap (is_idle (sources_before l i)) (sym (ap move_at here ∙ e)) ∙ lean i
 
-  behind-move : (i : ℕ) (n : Node) (m : Move) → slice_get l.nodes i ≡ Some n → move_of n.op n.operands ≡ Some m → behind_node (sources_before l i) n (move_of n.op n.operands) ≡ behind_move (sources_before l i) n m
-  behind-move i n m here e = ap (behind_node (sources_before l i) n) e ∙ ap (λ b. if b then sources_before l i else behind_move (sources_before l i) n m) (not-idle i n m here e)
+  after-move : (i : ℕ) (n : Node) (m : Move) → slice_get l.nodes i ≡ Some n → move_of n.op n.operands ≡ Some m → after_node (sources_before l i) n (move_of n.op n.operands) ≡ after_move (sources_before l i) n m
+  after-move i n m here e = ap (after_node (sources_before l i) n) e ∙ ap (λ b. if b then sources_before l i else after_move (sources_before l i) n m) (not-idle i n m here e)
 
   -- a move makes a source
   makes : (i : ℕ) (n : Node) (m : Move) → slice_get l.nodes i ≡ Some n → move_of n.op n.operands ≡ Some m → leaps n.op ≡ false → is_labelled l.places (suc i) ≡ false → sources_before l (suc i) m.into ≡ Some m.from
   makes i n m here e falls free =
-      ap (λ f. f m.into) (behind-straight i n here falls free ∙ behind-move i n m here e)
-      ∙ ap (λ b. if b then Some m.from else behind_other (sources_before l i) n m.into) (equal-self m.into)
+      ap (λ f. f m.into) (after-straight i n here falls free ∙ after-move i n m here e)
+      ∙ ap (λ b. if b then Some m.from else after_other (sources_before l i) n m.into) (equal-self m.into)
 
   -- which is there while neither is written
   keeps : (i : ℕ) (n : Node) (x y : Reg) → slice_get l.nodes i ≡ Some n → leaps n.op ≡ false → is_labelled l.places (suc i) ≡ false → is_written n x ≡ false → is_written n y ≡ false → sources_before l i x ≡ Some y → sources_before l (suc i) x ≡ Some y
-  keeps i n x y here falls free wx wy e = ap (λ f. f x) (behind-straight i n here falls free) ∙ by (move_of n.op n.operands) refl
+  keeps i n x y here falls free wx wy e = ap (λ f. f x) (after-straight i n here falls free) ∙ by (move_of n.op n.operands) refl
     where
-      other : behind_other (sources_before l i) n x ≡ Some y
+      other : after_other (sources_before l i) n x ≡ Some y
       other = ap (λ b. if b then None else unless_written n (sources_before l i x)) wx ∙ ap (unless_written n) e ∙ ap (λ b. if b then None else Some y) wy
 
-      apart : (m : Move) → move_of n.op n.operands ≡ Some m → (b : Bool) → is_equal m.into x ≡ b → (if b then Some m.from else behind_other (sources_before l i) n x) ≡ Some y
+      apart : (m : Move) → move_of n.op n.operands ≡ Some m → (b : Bool) → is_equal m.into x ≡ b → (if b then Some m.from else after_other (sources_before l i) n x) ≡ Some y
       apart m f false g = other
       apart m f true g = absurd (true≢false (sym (move-writes n m x f (written i n m here f) g) ∙ wx))
 
-      by : (o : Option Move) → move_of n.op n.operands ≡ o → behind_node (sources_before l i) n (move_of n.op n.operands) x ≡ Some y
-      by None f = ap (λ o. behind_node (sources_before l i) n o x) f ∙ other
-      by (Some m) f = ap (λ h. h x) (behind-move i n m here f) ∙ apart m f (is_equal m.into x) refl
+      by : (o : Option Move) → move_of n.op n.operands ≡ o → after_node (sources_before l i) n (move_of n.op n.operands) x ≡ Some y
+      by None f = ap (λ o. after_node (sources_before l i) n o x) f ∙ other
+      by (Some m) f = ap (λ h. h x) (after-move i n m here f) ∙ apart m f (is_equal m.into x) refl
 
   module _ (k : ℕ) (a b : Reg) (h : IsMovedBefore l k a b) (nodes : (j : ℕ) → j < k → (n : Node) × (slice_get l.nodes j ≡ Some n)) where
     kept-both : (j : ℕ) (n : Node) → h.at < j → j < k → slice_get l.nodes j ≡ Some n → (is_written n h.move.into ≡ false) × (is_written n h.move.from ≡ false)

@@ -38,11 +38,11 @@ abbrev pub unless_written : Node → Option Reg → Option Reg
 unless_written n None = None
 unless_written n (Some b) = if is_written n b then None else Some b
 
-abbrev pub behind_other : (Reg → Option Reg) → Node → Reg → Option Reg
-behind_other sources n r = if is_written n r then None else unless_written n (sources r)
+abbrev pub after_other : (Reg → Option Reg) → Node → Reg → Option Reg
+after_other sources n r = if is_written n r then None else unless_written n (sources r)
 
-abbrev pub behind_move : (Reg → Option Reg) → Node → Move → Reg → Option Reg
-behind_move sources n m r = if is_equal m.into r then Some m.from else behind_other sources n r
+abbrev pub after_move : (Reg → Option Reg) → Node → Move → Reg → Option Reg
+after_move sources n m r = if is_equal m.into r then Some m.from else after_other sources n r
 
 abbrev pub is_source : Option Reg → Reg → Bool
 is_source None r = false
@@ -53,18 +53,18 @@ abbrev pub is_idle : (Reg → Option Reg) → Option Move → Bool
 is_idle sources None = false
 is_idle sources (Some m) = is_equal m.into m.from || (is_source (sources m.into) m.from || is_source (sources m.from) m.into)
 
-abbrev pub behind_node : (Reg → Option Reg) → Node → Option Move → Reg → Option Reg
-behind_node sources n None = behind_other sources n
-behind_node sources n (Some m) = if is_idle sources (Some m) then sources else behind_move sources n m
+abbrev pub after_node : (Reg → Option Reg) → Node → Option Move → Reg → Option Reg
+after_node sources n None = after_other sources n
+after_node sources n (Some m) = if is_idle sources (Some m) then sources else after_move sources n m
 
-abbrev pub behind_at : (Reg → Option Reg) → Option Node → Reg → Option Reg
-behind_at sources None = no_sources
-behind_at sources (Some n) = if leaps n.op then no_sources else behind_node sources n (move_of n.op n.operands)
+abbrev pub after_at : (Reg → Option Reg) → Option Node → Reg → Option Reg
+after_at sources None = no_sources
+after_at sources (Some n) = if leaps n.op then no_sources else after_node sources n (move_of n.op n.operands)
 
 -- the sources before a node
 unfoldable pub sources_before : LabelledNodes → ℕ → Reg → Option Reg
 sources_before l zero = no_sources
-sources_before l (suc i) = if is_labelled l.places (suc i) then no_sources else behind_at (sources_before l i) (slice_get l.nodes i)
+sources_before l (suc i) = if is_labelled l.places (suc i) then no_sources else after_at (sources_before l i) (slice_get l.nodes i)
 
 abbrev pub move_at : Option Node → Option Move
 move_at None = None

@@ -4,7 +4,7 @@ ghost use Rattle.std.specs.Prelude.{◌≡◌, ◌<◌, if◌then◌else◌, not
 ghost use Rattle.lg_op.specs.declared.node.Node.{Node};
 ghost use Rattle.lg_op.specs.declared.operand.Reg.{Reg};
 ghost use Rattle.lg_carry.specs.Carries.{leaps};
-ghost use Rattle.lg_opt.specs.Moves.{behind_at, is_idle, move_of};
+ghost use Rattle.lg_opt.specs.Moves.{after_at, is_idle, move_of};
 ghost use Rattle.lg_opt.specs.SourceTables.{source_of, AreStays};
 ghost use Rattle.lg_opt.specs.Targets.{AreLabelsAt};
 
@@ -38,7 +38,7 @@ fn meet(sources: &mut Sources, labelled: bool)
 
 // The sources after a node, of those at it.
 fn pass(sources: &mut Sources, node: &Node)
-    ensures { (r : Reg) → source_of sources.new r ≡ behind_at (source_of sources.old) (Some node.now) r }
+    ensures { (r : Reg) → source_of sources.new r ≡ after_at (source_of sources.old) (Some node.now) r }
 {
     if leaps(node.op) {
         *sources = Sources::none();
@@ -61,7 +61,7 @@ fn stays_here(sources: &Sources, node: &Node) -> bool
 #[inline(never)]
 fn look_closely(sources: &mut Sources, node: &Node) -> bool
     ensures stays { result ≡ not (is_idle (source_of sources.old) (move_of node.now.op node.now.operands)) }
-    ensures behind { (r : Reg) → source_of sources.new r ≡ behind_at (source_of sources.old) (Some node.now) r }
+    ensures behind { (r : Reg) → source_of sources.new r ≡ after_at (source_of sources.old) (Some node.now) r }
 {
     let stays = stays_here(sources, node);
     pass(sources, node);
@@ -75,7 +75,7 @@ fn look(sources: &mut Sources, nodes: &NodeList, index: u32) -> bool
     requires { index < length nodes.now.nodes }
     ensures stays { (n : Node) → slice_get nodes.now.nodes index ≡ Some n → result ≡ not (is_idle (source_of sources.old) (move_of n.op n.operands)) }
     ensures behind { (n : Node) → slice_get nodes.now.nodes index ≡ Some n
-        → (r : Reg) → source_of sources.new r ≡ behind_at (source_of sources.old) (Some n) r }
+        → (r : Reg) → source_of sources.new r ≡ after_at (source_of sources.old) (Some n) r }
 {
     if sources.is_none() && !is_movr(nodes.node(index).op) {
         return true;

@@ -49,9 +49,9 @@ lines_done (suc k) text s at h = let test : nat_le (length text) at ≡ true = g
 
 -- ---- a directive's pieces
 
-pub behind_first : (pieces : List Piece) (n : ℕ) → n ≡ min (length pieces) 1 → drop n pieces ≡ drop 1 pieces
-behind_first [] n e = rw e refl
-behind_first (p ∷ rest) n e = let one : min (suc (length rest)) 1 ≡ 1 = omega arith in rw (e, one) refl
+pub after_first : (pieces : List Piece) (n : ℕ) → n ≡ min (length pieces) 1 → drop n pieces ≡ drop 1 pieces
+after_first [] n e = rw e refl
+after_first (p ∷ rest) n e = let one : min (suc (length rest)) 1 ≡ 1 = omega arith in rw (e, one) refl
 
 pub between_whole : (pieces : List Piece) (n : ℕ) → n ≡ length pieces → between 0 n pieces ≡ pieces
 between_whole pieces n e = let zero_less : n - 0 ≡ n = omega arith in rw zero_less (take_all n pieces (omega arith))

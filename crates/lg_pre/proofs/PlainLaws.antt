@@ -40,16 +40,16 @@ unfolding mark_in
 no_mark [] h = refl
 no_mark (p ∷ rest) h = h.0 refl
 
-behind_by : (slash : Bool) (p : Piece) (rest : List Piece) (b : Bool) → is_feed p.kind ≡ b → HasNoDirective b rest → ((s : Bool) → HasNoDirective false rest → HasNoDirective true (drop (line_len false s rest) rest)) → HasNoDirective true (drop (line_len false slash (p ∷ rest)) (p ∷ rest))
+after_by : (slash : Bool) (p : Piece) (rest : List Piece) (b : Bool) → is_feed p.kind ≡ b → HasNoDirective b rest → ((s : Bool) → HasNoDirective false rest → HasNoDirective true (drop (line_len false s rest) rest)) → HasNoDirective true (drop (line_len false slash (p ∷ rest)) (p ∷ rest))
 unfolding line_len
-behind_by slash p rest true e h next = rw e h
-behind_by slash p rest false e h next = rw (e, one-add) (next (ends_with_slash p) h)
+after_by slash p rest true e h next = rw e h
+after_by slash p rest false e h next = rw (e, one-add) (next (ends_with_slash p) h)
 
 -- after a line the next one begins
-behind_line : (begins slash : Bool) (pieces : List Piece) → HasNoDirective begins pieces → HasNoDirective true (drop (line_len false slash pieces) pieces)
+after_line : (begins slash : Bool) (pieces : List Piece) → HasNoDirective begins pieces → HasNoDirective true (drop (line_len false slash pieces) pieces)
 unfolding line_len
-behind_line begins slash [] h = tt
-behind_line begins slash (p ∷ rest) h = behind_by slash p rest (is_feed p.kind) refl h.1 (λ s none. behind_line false s rest none)
+after_line begins slash [] h = tt
+after_line begins slash (p ∷ rest) h = after_by slash p rest (is_feed p.kind) refl h.1 (λ s none. after_line false s rest none)
 
 -- a text with lines that wait
 abbrev waiting : List Piece → Expander
@@ -78,7 +78,7 @@ lines_by k text lines at next all none plain fits false e =
     let joined : (lines ++ take (at + n - at) (drop at text)) ++ drop (at + n) text ≡ text =
     rw (less, behind, append_assoc, take-append-drop n (drop at text)) all in
     rw (e, line_waits text lines at none)
-    (next (lines ++ take (at + n - at) (drop at text)) (at + n) (omega arith) joined (rw behind (behind_line true false (drop at text) none)))
+    (next (lines ++ take (at + n - at) (drop at text)) (at + n) (omega arith) joined (rw behind (after_line true false (drop at text) none)))
 
 lines_plain : (k : ℕ) (text lines : List Piece) (at : ℕ) → length text ≤ at + k → lines ++ drop at text ≡ text → HasNoDirective true (drop at text) → ArePlain start_table text → length (bytes_of text) ≤ most → lines_in k text (waiting lines) at ≡ Ok (bytes_of text)
 unfolding lines_in

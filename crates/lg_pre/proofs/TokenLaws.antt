@@ -23,33 +23,33 @@ pieces_are_the_text text = (pieces_are_text (length text) 1 text (omega arith), 
 
 -- ---- line feeds after what a call gives
 
-abbrev HasFeedsBehind : List Piece → List Piece → Type 0
-HasFeedsBehind given out = (feeds : List Piece) × (out ≡ given ++ feeds) × AreFeeds feeds
+abbrev HasFeedsAfter : List Piece → List Piece → Type 0
+HasFeedsAfter given out = (feeds : List Piece) × (out ≡ given ++ feeds) × AreFeeds feeds
 
 all_feeds : (a b : List Piece) → AreFeeds a → AreFeeds b → AreFeeds (a ++ b)
 all_feeds [] b ha hb = hb
 all_feeds (p ∷ a) b ha hb = (ha.0, all_feeds a b ha.1 hb)
 
-none_behind : (given : List Piece) → HasFeedsBehind given given
+none_behind : (given : List Piece) → HasFeedsAfter given given
 none_behind given = ([], sym (append-nil given), tt)
 
-one_behind : (line : ℕ) (given : List Piece) (b : Bool) → HasFeedsBehind given (if b then given ++ feed line ∷ [] else given)
-one_behind line given true = (feed line ∷ [], refl, (refl, tt))
-one_behind line given false = none_behind given
+one_after : (line : ℕ) (given : List Piece) (b : Bool) → HasFeedsAfter given (if b then given ++ feed line ∷ [] else given)
+one_after line given true = (feed line ∷ [], refl, (refl, tt))
+one_after line given false = none_behind given
 
-more_behind : (given next out : List Piece) → HasFeedsBehind given next → HasFeedsBehind next out → HasFeedsBehind given out
-more_behind given next out a b = (a.0 ++ b.0, b.1 ∙ ap (λ (l : List Piece). l ++ b.0) a.1 ∙ append_assoc given a.0 b.0, all_feeds a.0 b.0 a.2 b.2)
+more_after : (given next out : List Piece) → HasFeedsAfter given next → HasFeedsAfter next out → HasFeedsAfter given out
+more_after given next out a b = (a.0 ++ b.0, b.1 ∙ ap (λ (l : List Piece). l ++ b.0) a.1 ∙ append_assoc given a.0 b.0, all_feeds a.0 b.0 a.2 b.2)
 
-text_behind : (line : ℕ) (given : List Piece) (bytes : List ℕ) → HasFeedsBehind given (fold (with_feed line) given bytes)
-text_behind line given [] = none_behind given
-text_behind line given (b ∷ bytes) = more_behind given (with_feed line given b) _ (one_behind line given (b == 10)) (text_behind line (with_feed line given b) bytes)
+text_after : (line : ℕ) (given : List Piece) (bytes : List ℕ) → HasFeedsAfter given (fold (with_feed line) given bytes)
+text_after line given [] = none_behind given
+text_after line given (b ∷ bytes) = more_after given (with_feed line given b) _ (one_after line given (b == 10)) (text_after line (with_feed line given b) bytes)
 
-call_behind : (line : ℕ) (given pieces : List Piece) → HasFeedsBehind given (with_feeds line given pieces)
+call_after : (line : ℕ) (given pieces : List Piece) → HasFeedsAfter given (with_feeds line given pieces)
 unfolding with_feeds
-call_behind line given [] = none_behind given
-call_behind line given (p ∷ rest) = more_behind given (with_feeds_of line given p) _ (text_behind line given p.text) (call_behind line (with_feeds_of line given p) rest)
+call_after line given [] = none_behind given
+call_after line given (p ∷ rest) = more_after given (with_feeds_of line given p) _ (text_after line given p.text) (call_after line (with_feeds_of line given p) rest)
 
-feeds_line : (given out : List Piece) → feeds_among given ≡ 0 → HasFeedsBehind given out → IsOneLine out
+feeds_line : (given out : List Piece) → feeds_among given ≡ 0 → HasFeedsAfter given out → IsOneLine out
 feeds_line given out quiet h = record { made = given; feeds = h.0; all = h.1; none = sym (among_bytes given) ∙ quiet; alone = h.2 }
 
 quiet_line : (out : List Piece) → feeds_among out ≡ 0 → IsOneLine out
@@ -75,7 +75,7 @@ unfolding called
 called_line inner keeps p place m sum call None hb quiet = tt
 called_line inner keeps p place m sum call (Some raw) hb quiet =
     if_bound (replaced inner p.line [] place m ([], sum) raw) (λ next. Ok (length call, (with_feeds p.line next.0 call, next.1))) _ _ (replaced_keeps inner keeps p.line [] place m ([], sum) raw hb quiet)
-    (λ next e. feeds_line next.0 (with_feeds p.line next.0 call) e (call_behind p.line next.0 call))
+    (λ next e. feeds_line next.0 (with_feeds p.line next.0 call) e (call_after p.line next.0 call))
 
 closed_line : (inner : Replacer) → Keeps inner → (p : Piece) (place : ℕ) (m : Macro) (sum : ℕ) (rest : List Piece) (arity begun : ℕ) (len : Option ℕ) → feeds_among m.body ≡ 0 → AreTidy rest → GivesOneLine (closed inner p [] place m ([], sum) rest arity begun len)
 closed_line inner keeps p place m sum rest arity begun None hb tidy = tt

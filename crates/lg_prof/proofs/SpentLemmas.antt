@@ -12,14 +12,14 @@ use Rattle.lg_cpu.specs.declared.answer.CpuStep.TheVariants as cpu
 use Rattle.lg_cpu.proofs.SeriesLemmas.{next}
 use Rattle.lg_op.specs.declared.node.Node.{Node}
 use Rattle.lg_prof.specs.Tallies.{AreBelow}
-use Rattle.lg_prof.specs.Spent.{code_line, has_run, is_fault, is_going, lies_first, line_behind, line_here, spent}
+use Rattle.lg_prof.specs.Spent.{code_line, has_run, is_fault, is_going, lies_first, line_after, line_here, spent}
 
-pub none_behind : (line_of : ℕ → Option ℕ) (run : ℕ → Run CpuState) → line_behind line_of run 0 ≡ 0
-unfolding line_behind
+pub none_behind : (line_of : ℕ → Option ℕ) (run : ℕ → Run CpuState) → line_after line_of run 0 ≡ 0
+unfolding line_after
 none_behind line_of run = refl
 
-pub line_more : (line_of : ℕ → Option ℕ) (run : ℕ → Run CpuState) (n : ℕ) → line_behind line_of run (suc n) ≡ unwrap_or (line_of (run n).state.pc) (line_behind line_of run n)
-unfolding line_behind
+pub line_more : (line_of : ℕ → Option ℕ) (run : ℕ → Run CpuState) (n : ℕ) → line_after line_of run (suc n) ≡ unwrap_or (line_of (run n).state.pc) (line_after line_of run n)
+unfolding line_after
 line_more line_of run n = refl
 
 pub line_below : (found : Option ℕ) (before top : ℕ) → ((line : ℕ) → found ≡ Some line → line < top) → before < top → unwrap_or found before < top
@@ -68,16 +68,16 @@ code_below nodes places pc line top below e = at (nat_le code_base pc) e
     at true e = line_of_node nodes places (pc - code_base) line top below e
     at false e = cc
 
-pub behind_below : (nodes : List Node) (places : List ℕ) (run : ℕ → Run CpuState) (top : ℕ) → 0 < top → AreBelow nodes top → (n : ℕ) → line_behind (code_line nodes places) run n < top
-unfolding line_behind
-behind_below nodes places run top some below zero = some
-behind_below nodes places run top some below (suc n) =
-    line_below (code_line nodes places (run n).state.pc) (line_behind (code_line nodes places) run n) top
-    (λ line e. code_below nodes places (run n).state.pc line top below e) (behind_below nodes places run top some below n)
+pub after_below : (nodes : List Node) (places : List ℕ) (run : ℕ → Run CpuState) (top : ℕ) → 0 < top → AreBelow nodes top → (n : ℕ) → line_after (code_line nodes places) run n < top
+unfolding line_after
+after_below nodes places run top some below zero = some
+after_below nodes places run top some below (suc n) =
+    line_below (code_line nodes places (run n).state.pc) (line_after (code_line nodes places) run n) top
+    (λ line e. code_below nodes places (run n).state.pc line top below e) (after_below nodes places run top some below n)
 
 -- ---- lines by two tables that agree
-pub behind_same : (f g : ℕ → Option ℕ) (run : ℕ → Run CpuState) → ((pc : ℕ) → f pc ≡ g pc) → (n : ℕ) → line_behind f run n ≡ line_behind g run n
-behind_same f g run same n = ap (λ (h : ℕ → Option ℕ). line_behind h run n) (λ i pc. same pc i)
+pub after_same : (f g : ℕ → Option ℕ) (run : ℕ → Run CpuState) → ((pc : ℕ) → f pc ≡ g pc) → (n : ℕ) → line_after f run n ≡ line_after g run n
+after_same f g run same n = ap (λ (h : ℕ → Option ℕ). line_after h run n) (λ i pc. same pc i)
 
 pub spent_same : (f g : ℕ → Option ℕ) (run : ℕ → Run CpuState) → ((pc : ℕ) → f pc ≡ g pc) → (line n : ℕ) → spent f run line n ≡ spent g run line n
 spent_same f g run same line n = ap (λ (h : ℕ → Option ℕ). spent h run line n) (λ i pc. same pc i)

@@ -52,8 +52,8 @@ total_before at (suc top) le =
     let here : one true at top ≡ 0 = ap (λ b. if b then 1 else 0) (not_at at top (omega (arith, le))) in
     omega (arith, before, here)
 
-not_behind : (at line : ℕ) → at < line → (at == line) ≡ false
-not_behind at line lt = grind (arith, lt)
+not_after : (at line : ℕ) → at < line → (at == line) ≡ false
+not_after at line lt = grind (arith, lt)
 
 total_one : (at top : ℕ) → at < top → total (one true at) top ≡ 1
 unfolding total
@@ -61,7 +61,7 @@ total_one at zero lt = absurd (omega (arith, lt))
 total_one at (suc top) lt = elim (cases_lt at top) [
   | inl less ↦
       let before = total_one at top less in
-      let here : one true at top ≡ 0 = ap (λ b. if b then 1 else 0) (not_behind at top less) in
+      let here : one true at top ≡ 0 = ap (λ b. if b then 1 else 0) (not_after at top less) in
       omega (arith, before, here)
   | inr other ↦
       let same : at ≡ top = omega (arith, lt, other) in

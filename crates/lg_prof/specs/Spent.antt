@@ -26,9 +26,9 @@ table_line lines pc = if nat_le code_base pc then slice_get lines (pc - code_bas
 
 -- the line of the last of the first n steps whose program counter lay in the code: a host step, which begins outside, counts for the line of the code step
 -- before it. No line of a node is 0, and the first step begins in the code
-unfoldable pub line_behind : (line_of : ℕ → Option ℕ) → (ℕ → Run CpuState) → ℕ → ℕ
-line_behind line_of run zero = 0
-line_behind line_of run (suc n) = unwrap_or (line_of (run n).state.pc) (line_behind line_of run n)
+unfoldable pub line_after : (line_of : ℕ → Option ℕ) → (ℕ → Run CpuState) → ℕ → ℕ
+line_after line_of run zero = 0
+line_after line_of run (suc n) = unwrap_or (line_of (run n).state.pc) (line_after line_of run n)
 
 abbrev pub is_going : Progress → Bool
 is_going Goes = true
@@ -46,4 +46,4 @@ has_run run n = is_going (run n).progress && not (is_fault (run (suc n)).progres
 
 -- how many of the first n steps went or ended and count for this line
 abbrev pub spent : (line_of : ℕ → Option ℕ) → (ℕ → Run CpuState) → (line n : ℕ) → ℕ
-spent line_of run line n = counted (has_run run) (λ k. line_behind line_of run (suc k)) line n
+spent line_of run line n = counted (has_run run) (λ k. line_after line_of run (suc k)) line n

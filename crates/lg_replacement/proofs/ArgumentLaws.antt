@@ -6,7 +6,7 @@ use Rattle.std.proofs.lemmas.Bool.{eq-eqb, ne_eqb}
 use Rattle.std.proofs.lemmas.List.{length-append, map-append, append-nil}
 use Rattle.lg_lex.specs.Bytes.{further}
 use Rattle.lg_lex.proofs.ByteLemmas.{eqb_true}
-use Rattle.lg_macro.specs.Arguments.{arguments_of, closing, depth_behind, gathered, if_so_many, in_argument, is_empty_list, opening, solid_len, stripped, without_empty}
+use Rattle.lg_macro.specs.Arguments.{arguments_of, closing, depth_after, gathered, if_so_many, in_argument, is_empty_list, opening, solid_len, stripped, without_empty}
 use Rattle.lg_replacement.specs.Calls.{AreArguments, AreSoMany, AreWhite, IsBalanced, IsCall, IsParted, IsStripped, empty, other, group, last, next}
 use Rattle.lg_macro.specs.Pieces.{Piece, is_byte, is_white}
 use Rattle.lg_macro.specs.declared.pieces.PieceKind.{PieceKind}
@@ -72,32 +72,32 @@ left_not_white Quoted h = refl
 left_not_white Word h = refl
 left_not_white Number h = refl
 
-depth_same : (depth : ℕ) (kind : PieceKind) → is_byte 40 kind ≡ false → is_byte 41 kind ≡ false → depth_behind depth kind ≡ depth
+depth_same : (depth : ℕ) (kind : PieceKind) → is_byte 40 kind ≡ false → is_byte 41 kind ≡ false → depth_after depth kind ≡ depth
 depth_same depth kind left right = rw (left, right) refl
 
-depth_left : (depth : ℕ) (kind : PieceKind) → is_byte 40 kind ≡ true → depth_behind depth kind ≡ suc depth
+depth_left : (depth : ℕ) (kind : PieceKind) → is_byte 40 kind ≡ true → depth_after depth kind ≡ suc depth
 depth_left depth kind left = rw left (let e : depth + 1 ≡ suc depth = omega arith in e)
 
-depth_right : (depth : ℕ) (kind : PieceKind) → is_byte 41 kind ≡ true → depth_behind (suc depth) kind ≡ depth
+depth_right : (depth : ℕ) (kind : PieceKind) → is_byte 41 kind ≡ true → depth_after (suc depth) kind ≡ depth
 depth_right depth kind right = rw (not_40 kind right, right) (let e : suc depth - 1 ≡ depth = omega arith in e)
 
 is_open : (depth : ℕ) → (suc depth == 0) ≡ false
 is_open depth = ne_eqb _ _ (λ e. omega (arith, e))
 
 -- the ( of a call
-pub opening_behind : (white : List Piece) (left : Piece) (rest : List Piece) → AreWhite white → is_byte 40 left.kind ≡ true → opening (white ++ (left ∷ rest)) ≡ Some (length white + 1)
+pub opening_after : (white : List Piece) (left : Piece) (rest : List Piece) → AreWhite white → is_byte 40 left.kind ≡ true → opening (white ++ (left ∷ rest)) ≡ Some (length white + 1)
 unfolding opening
-opening_behind [] left rest h mark = rw (left_not_white left.kind mark, mark) refl
-opening_behind (p ∷ white) left rest h mark =
-    rw h.0 (ap (further 1) (opening_behind white left rest h.1 mark) ∙ ap Some (let e : 1 + (length white + 1) ≡ length (p ∷ white) + 1 = omega arith in e))
+opening_after [] left rest h mark = rw (left_not_white left.kind mark, mark) refl
+opening_after (p ∷ white) left rest h mark =
+    rw h.0 (ap (further 1) (opening_after white left rest h.1 mark) ∙ ap Some (let e : 1 + (length white + 1) ≡ length (p ∷ white) + 1 = omega arith in e))
 
 -- ---- the ) of a call
 
-closing_on : (depth : ℕ) (p : Piece) (rest : List Piece) → (is_byte 41 p.kind && (depth == 0)) ≡ false → closing depth (p ∷ rest) ≡ further 1 (closing (depth_behind depth p.kind) rest)
+closing_on : (depth : ℕ) (p : Piece) (rest : List Piece) → (is_byte 41 p.kind && (depth == 0)) ≡ false → closing depth (p ∷ rest) ≡ further 1 (closing (depth_after depth p.kind) rest)
 unfolding closing
 closing_on depth p rest h = rw h refl
 
-closing_one : (depth : ℕ) (p : Piece) (rest : List Piece) → is_byte 41 p.kind ≡ false → closing depth (p ∷ rest) ≡ further 1 (closing (depth_behind depth p.kind) rest)
+closing_one : (depth : ℕ) (p : Piece) (rest : List Piece) → is_byte 41 p.kind ≡ false → closing depth (p ∷ rest) ≡ further 1 (closing (depth_after depth p.kind) rest)
 closing_one depth p rest h = closing_on depth p rest (ap (λ b. b && (depth == 0)) h)
 
 closing_inner : (depth : ℕ) (p : Piece) (rest : List Piece) → is_byte 41 p.kind ≡ true → closing (suc depth) (p ∷ rest) ≡ further 1 (closing depth rest)
@@ -111,8 +111,8 @@ closing_last p rest h = rw h refl
 long_group : (left : Piece) (inside : List Piece) (right : Piece) (rest : List Piece) → length (left ∷ (inside ++ (right ∷ rest))) ≡ 1 + (length inside + (1 + length rest))
 long_group left inside right rest = let e = length-append inside (right ∷ rest) in omega (arith, e)
 
-group_behind : (left : Piece) (inside : List Piece) (right : Piece) (rest tail : List Piece) → (left ∷ (inside ++ (right ∷ rest))) ++ tail ≡ left ∷ (inside ++ (right ∷ (rest ++ tail)))
-group_behind left inside right rest tail = ap (λ l. left ∷ l) (append-again inside (right ∷ rest) tail)
+group_after : (left : Piece) (inside : List Piece) (right : Piece) (rest tail : List Piece) → (left ∷ (inside ++ (right ∷ rest))) ++ tail ≡ left ∷ (inside ++ (right ∷ (rest ++ tail)))
+group_after left inside right rest tail = ap (λ l. left ∷ l) (append-again inside (right ∷ rest) tail)
 
 closing_over : {commas : Bool} {part : List Piece} → IsBalanced commas part → (depth : ℕ) (tail : List Piece) → closing depth (part ++ tail) ≡ further (length part) (closing depth tail)
 closing_over (empty commas) depth tail = sym (further_none (closing depth tail))
@@ -123,7 +123,7 @@ closing_over (other commas p rest left right comma more) depth tail =
     ∙ further_both 1 (length rest) (closing depth tail)
     ∙ ap (λ n. further n (closing depth tail)) (let e : 1 + length rest ≡ length (p ∷ rest) = omega arith in e)
 closing_over (group commas left inside right rest opens closes within more) depth tail =
-    ap (closing depth) (group_behind left inside right rest tail)
+    ap (closing depth) (group_after left inside right rest tail)
     ∙ closing_one depth left (inside ++ (right ∷ (rest ++ tail))) (not_41 left.kind opens)
     ∙ ap (λ d. further 1 (closing d (inside ++ (right ∷ (rest ++ tail))))) (depth_left depth left.kind opens)
     ∙ ap (further 1) (closing_over within (suc depth) (right ∷ (rest ++ tail)))
@@ -150,7 +150,7 @@ closing_parted (next part comma rest parts balanced mark more) tail =
 -- ---- the arguments of a call
 
 gathered_one : (line depth : ℕ) (done : List (List Piece)) (now : List Piece) (p : Piece) (rest : List Piece) → (is_byte 44 p.kind && (depth == 0)) ≡ false
-    → gathered line depth done now (p ∷ rest) ≡ gathered line (depth_behind depth p.kind) done (now ++ (in_argument line p ∷ [])) rest
+    → gathered line depth done now (p ∷ rest) ≡ gathered line (depth_after depth p.kind) done (now ++ (in_argument line p ∷ [])) rest
 unfolding gathered
 gathered_one line depth done now p rest h = rw h refl
 
@@ -198,7 +198,7 @@ gathered_over (group commas left inside right rest opens closes within more) lin
     let f = in_argument line in
     let in_left = now ++ (f left ∷ []) in
     let in_inside = in_left ++ map f inside in
-    ap (gathered line depth done now) (group_behind left inside right rest tail)
+    ap (gathered line depth done now) (group_after left inside right rest tail)
     ∙ gathered_one line depth done now left (inside ++ (right ∷ (rest ++ tail))) (ap (λ b. b && (depth == 0)) (left_no_comma left.kind opens))
     ∙ ap (λ d. gathered line d done in_left (inside ++ (right ∷ (rest ++ tail)))) (depth_left depth left.kind opens)
     ∙ gathered_over within line (suc depth) done in_left (right ∷ (rest ++ tail)) (λ any. is_open depth)
@@ -263,14 +263,14 @@ unfolding stripped
 stripped_at n pieces solid inner k e₁ e₂ e₃ e₄ = rw (e₁, e₂, e₃) e₄
 
 stripped_is : (pieces inner : List Piece) → IsStripped pieces inner → stripped pieces ≡ inner
-stripped_is pieces [] h = ap stripped h.is ∙ stripped_empty (h.before ++ h.behind) (all_white h.before h.behind h.white_before h.white_behind)
+stripped_is pieces [] h = ap stripped h.is ∙ stripped_empty (h.before ++ h.behind) (all_white h.before h.behind h.white_before h.white_after)
 stripped_is pieces (p ∷ rest) h =
     let s = split_last p rest in
     let solid = h.before ++ (p ∷ rest) in
     let whole : pieces ≡ (h.before ++ s.0) ++ (s.1 ∷ h.behind) =
     h.is ∙ ap (λ l. h.before ++ (l ++ h.behind)) s.2 ∙ ap (λ l. h.before ++ l) (append-again s.0 (s.1 ∷ []) h.behind) ∙ sym (append-again h.before s.0 (s.1 ∷ h.behind)) in
     let long : suc (length (h.before ++ s.0)) ≡ length solid = (let a = length-append h.before s.0 in let b = length-append h.before (p ∷ rest) in let c = ap length s.2 in let d = length-append s.0 (s.1 ∷ []) in omega (arith, a, b, c, d)) in
-    let all : solid_len pieces ≡ length solid = ap solid_len whole ∙ solid_to (h.before ++ s.0) s.1 h.behind (h.ends s.0 s.1 s.2) h.white_behind ∙ long in
+    let all : solid_len pieces ≡ length solid = ap solid_len whole ∙ solid_to (h.before ++ s.0) s.1 h.behind (h.ends s.0 s.1 s.2) h.white_after ∙ long in
     let front : take (length solid) pieces ≡ solid = ap (take (length solid)) (h.is ∙ sym (append-again h.before (p ∷ rest) h.behind)) ∙ take_whole solid h.behind in
     stripped_at (length solid) pieces solid (p ∷ rest) (length h.before) all front (white_len h.before p rest h.white_before (h.begins p rest refl)) (drop_whole h.before (p ∷ rest))
 

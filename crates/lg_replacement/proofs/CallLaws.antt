@@ -6,9 +6,9 @@ use Rattle.lg_base.specs.Refusals.{◌>>=◌}
 use Rattle.lg_base.specs.declared.refusal.Refusal.{Refusal}
 use Rattle.lg_lex.specs.Bytes.{further}
 use Rattle.lg_macro.specs.Arguments.{arguments_of, closing, feed, opening, with_feed, with_feeds_of, with_feeds}
-use Rattle.lg_replacement.specs.Calls.{AreExpanded, AreGlued, ArePasted, BodiesAreFilled, CallsReplaceNames, IsCall, IsFilled, IsPasted, Names, PastedBodiesReplaceNames, StandsFor, feeds_behind, bare, chain}
+use Rattle.lg_replacement.specs.Calls.{AreExpanded, AreGlued, ArePasted, BodiesAreFilled, CallsReplaceNames, IsCall, IsFilled, IsPasted, Names, PastedBodiesReplaceNames, StandsFor, feeds_after, bare, chain}
 use Rattle.lg_macro.specs.Cutting.{cut}
-use Rattle.lg_replacement.specs.Expansion.{Expander, Given, Outcome, at_macro, at_name, behind_call, by_arity, called, closed, each, expand_in, object, opened, put, put_name, replaced, step, walk}
+use Rattle.lg_replacement.specs.Expansion.{Expander, Given, Outcome, at_macro, at_name, after_call, by_arity, called, closed, each, expand_in, object, opened, put, put_name, replaced, step, walk}
 use Rattle.lg_macro.specs.Macros.{counted}
 use Rattle.lg_macro.specs.Pasting.{joined}
 use Rattle.lg_macro.specs.Pieces.{Piece}
@@ -16,9 +16,9 @@ use Rattle.lg_macro.specs.Substitution.{filled, stands, stands_by, substituted}
 use Rattle.lg_macro.specs.Text.{bytes_of, feeds_of}
 use Rattle.lg_macro.specs.declared.macros.Macro.{Macro}
 use Rattle.lg_macro.specs.declared.macros.Mark.{Mark}
-use Rattle.lg_replacement.proofs.ArgumentLaws.{call_arguments, closing_last, closing_parted, drop_whole, opening_behind, split_last, take_whole}
+use Rattle.lg_replacement.proofs.ArgumentLaws.{call_arguments, closing_last, closing_parted, drop_whole, opening_after, split_last, take_whole}
 use Rattle.lg_macro.proofs.FeedLemmas.{feeds_append, feeds_cons}
-use Rattle.lg_replacement.proofs.ReplacementLemmas.{append-again, behind-name, step-object}
+use Rattle.lg_replacement.proofs.ReplacementLemmas.{append-again, after-name, step-object}
 
 -- ---- bodies
 
@@ -177,7 +177,7 @@ object_puts table n place hidden p m given rest out f is = by (counted p.line m 
   where
     by : (c : Result ℕ Refusal) → ((c >>= put_name (expand_in table n) p hidden place m given.0) >>= (λ t. f (drop t.0 rest) t.1))
         ≡ ((c >>= (λ sum. expand_in table n p.line (hidden ++ place ∷ []) out (given.0, sum))) >>= f rest)
-    by (Ok sum) = rw is (behind-name (expand_in table n p.line (hidden ++ place ∷ []) out (given.0, sum)) rest f)
+    by (Ok sum) = rw is (after-name (expand_in table n p.line (hidden ++ place ∷ []) out (given.0, sum)) rest f)
     by (Err fault) = refl
 
 pub pasted-bodies : PastedBodiesReplaceNames
@@ -216,8 +216,8 @@ opened_at inner p hidden place m given behind tail call inside arity begun len r
     ∙ ap (λ l. at l (arguments_of arity p.line (take len (drop begun behind)))) e₅
     ∙ ap (at call) (ap (arguments_of arity p.line) (ap (take len) e₂ ∙ e₄) ∙ e₆)
 
-call_behind : (line arity : ℕ) (call : List Piece) (raw : List (List Piece)) (c : IsCall line arity call raw) (rest : List Piece) → call ++ rest ≡ (c.white ++ (c.left ∷ [])) ++ (c.inside ++ (c.right ∷ rest))
-call_behind line arity call raw c rest =
+call_after : (line arity : ℕ) (call : List Piece) (raw : List (List Piece)) (c : IsCall line arity call raw) (rest : List Piece) → call ++ rest ≡ (c.white ++ (c.left ∷ [])) ++ (c.inside ++ (c.right ∷ rest))
+call_after line arity call raw c rest =
     ap (λ l. l ++ rest) c.is ∙ append-again c.white (c.left ∷ (c.inside ++ (c.right ∷ []))) rest
     ∙ ap (λ l. c.white ++ (c.left ∷ l)) (append-again c.inside (c.right ∷ []) rest)
     ∙ sym (append-again c.white (c.left ∷ []) (c.inside ++ (c.right ∷ rest)))
@@ -233,10 +233,10 @@ step_call : (table : List Macro) (inner : Expander) (hidden : List ℕ) (p : Pie
     → Names table hidden p place m → m.arity ≡ Some arity → IsCall p.line arity call raw → step table inner hidden p (call ++ rest) given ≡ called inner p hidden place m given call (Some raw)
 unfolding step at_name at_macro
 step_call table inner hidden p call rest given place arity m raw names takes c =
-    let whole = call_behind p.line arity call raw c rest in
+    let whole = call_after p.line arity call raw c rest in
     let tail = c.inside ++ (c.right ∷ rest) in
     let begins : opening (call ++ rest) ≡ Some (length c.white + 1) =
-    ap opening (whole ∙ append-again c.white (c.left ∷ []) tail) ∙ opening_behind c.white c.left tail c.is_space c.opens in
+    ap opening (whole ∙ append-again c.white (c.left ∷ []) tail) ∙ opening_after c.white c.left tail c.is_space c.opens in
     let front : length (c.white ++ (c.left ∷ [])) ≡ length c.white + 1 = length-append c.white (c.left ∷ []) in
     let inner_tail : drop (length c.white + 1) (call ++ rest) ≡ tail =
     ap (drop (length c.white + 1)) whole ∙ ap (λ k. drop k ((c.white ++ (c.left ∷ [])) ++ tail)) (sym front) ∙ drop_whole (c.white ++ (c.left ∷ [])) tail in
@@ -258,13 +258,13 @@ text_feeds line given (b ∷ bytes) = by (b == 10) (λ more. text_feeds line mor
     by true more = more (given ++ (feed line ∷ [])) ∙ append-again given (feed line ∷ []) (replicate (feeds_of bytes) (feed line)) ∙ ap (λ l. given ++ l) (replicate-append-replicate 1 (feeds_of bytes) (feed line))
     by false more = more given ∙ ap (λ k. given ++ replicate k (feed line)) (let e : feeds_of bytes ≡ 0 + feeds_of bytes = omega arith in e)
 
-call_feeds : (line : ℕ) (given call : List Piece) → with_feeds line given call ≡ given ++ feeds_behind line call
+call_feeds : (line : ℕ) (given call : List Piece) → with_feeds line given call ≡ given ++ feeds_after line call
 unfolding with_feeds
 call_feeds line given [] = sym (append-nil given)
 call_feeds line given (p ∷ rest) =
     call_feeds line (with_feeds_of line given p) rest
-    ∙ ap (λ l. l ++ feeds_behind line rest) (text_feeds line given p.text)
-    ∙ append-again given (replicate (feeds_of p.text) (feed line)) (feeds_behind line rest)
+    ∙ ap (λ l. l ++ feeds_after line rest) (text_feeds line given p.text)
+    ∙ append-again given (replicate (feeds_of p.text) (feed line)) (feeds_after line rest)
     ∙ ap (λ l. given ++ l) (replicate-append-replicate (feeds_of p.text) (feeds_of (bytes_of rest)) (feed line) ∙ ap (λ k. replicate k (feed line)) (sym (feeds_append p.text (bytes_of rest))))
 
 -- ---- what is after a call
@@ -291,12 +291,12 @@ walk_enough table inner (suc j) (suc k) hidden (p ∷ rest) given lj lk =
 called_puts : (table : List Macro) (n : ℕ) (hidden : List ℕ) (p : Piece) (place : ℕ) (m : Macro) (given : Given) (call rest : List Piece) (raw : List (List Piece)) (made : Outcome)
     → replaced (expand_in table n) p.line hidden place m given raw ≡ made
     → (called (expand_in table n) p hidden place m given call (Some raw) >>= (λ s. walk table (expand_in table n) (length (call ++ rest)) hidden (drop s.0 (call ++ rest)) s.1))
-    ≡ (made >>= (λ done. walk table (expand_in table n) (length rest) hidden rest (done.0 ++ feeds_behind p.line call, done.1)))
+    ≡ (made >>= (λ done. walk table (expand_in table n) (length rest) hidden rest (done.0 ++ feeds_after p.line call, done.1)))
 unfolding called
 called_puts table n hidden p place m given call rest raw made is = rw is (by made)
   where
-    by : (o : Outcome) → (behind_call p.line call o >>= (λ s. walk table (expand_in table n) (length (call ++ rest)) hidden (drop s.0 (call ++ rest)) s.1))
-        ≡ (o >>= (λ done. walk table (expand_in table n) (length rest) hidden rest (done.0 ++ feeds_behind p.line call, done.1)))
+    by : (o : Outcome) → (after_call p.line call o >>= (λ s. walk table (expand_in table n) (length (call ++ rest)) hidden (drop s.0 (call ++ rest)) s.1))
+        ≡ (o >>= (λ done. walk table (expand_in table n) (length rest) hidden rest (done.0 ++ feeds_after p.line call, done.1)))
     by (Ok g) =
         ap (λ l. walk table (expand_in table n) (length (call ++ rest)) hidden l (with_feeds p.line g.0 call, g.1)) (drop_whole call rest)
         ∙ (let long = length-append call rest in walk_enough table (expand_in table n) (length (call ++ rest)) (length rest) hidden rest (with_feeds p.line g.0 call, g.1) (omega (arith, long)) (omega arith))

@@ -5,7 +5,7 @@ use Rattle.std.specs.List.{AllByRecursion}
 use Rattle.std.proofs.lemmas.List.{append-nil}
 use Rattle.lg_base.specs.Refusals.{◌>>=◌}
 use Rattle.lg_base.specs.declared.refusal.Refusal.{Refusal}
-use Rattle.lg_replacement.specs.Expansion.{Given, Expander, Outcome, kept, named, behind_name, put, put_name, object, at_macro, at_name, step, walk, expand_in}
+use Rattle.lg_replacement.specs.Expansion.{Given, Expander, Outcome, kept, named, after_name, put, put_name, object, at_macro, at_name, step, walk, expand_in}
 use Rattle.lg_macro.specs.Macros.{counted, place_in}
 use Rattle.lg_macro.specs.Pieces.{Piece, froze, on_line, is_word}
 use Rattle.lg_macro.specs.Substitution.{filled, substituted}
@@ -73,9 +73,9 @@ unfolding substituted
 plain-body line m h = filled-plain line m.body m.marks [] [] h.marked h.plain
 
 -- an outcome with no piece taken after the name, and what follows
-pub behind-name : (o : Outcome) (rest : List Piece) (f : List Piece → Given → Outcome) → (behind_name o >>= (λ t. f (drop t.0 rest) t.1)) ≡ (o >>= f rest)
-behind-name (Ok g) rest f = refl
-behind-name (Err fault) rest f = refl
+pub after-name : (o : Outcome) (rest : List Piece) (f : List Piece → Given → Outcome) → (after_name o >>= (λ t. f (drop t.0 rest) t.1)) ≡ (o >>= f rest)
+after-name (Ok g) rest f = refl
+after-name (Err fault) rest f = refl
 
 object-puts : (table : List Macro) (n place : ℕ) (hidden : List ℕ) (p : Piece) (m : Macro) (given : Given) (rest : List Piece) (f : List Piece → Given → Outcome) → IsPlain m
     → (object (expand_in table n) p hidden place m given >>= (λ t. f (drop t.0 rest) t.1))
@@ -85,7 +85,7 @@ object-puts table n place hidden p m given rest f h = by (counted p.line m given
   where
     by : (c : Result ℕ Refusal) → ((c >>= put_name (expand_in table n) p hidden place m given.0) >>= (λ t. f (drop t.0 rest) t.1))
         ≡ ((c >>= (λ sum. expand_in table n p.line (hidden ++ place ∷ []) (map (on_line p.line) m.body) (given.0, sum))) >>= f rest)
-    by (Ok sum) = rw (plain-body p.line m h) (behind-name (expand_in table n p.line (hidden ++ place ∷ []) (map (on_line p.line) m.body) (given.0, sum)) rest f)
+    by (Ok sum) = rw (plain-body p.line m h) (after-name (expand_in table n p.line (hidden ++ place ∷ []) (map (on_line p.line) m.body) (given.0, sum)) rest f)
     by (Err fault) = refl
 
 pub bodies-replace : BodiesReplaceNames

@@ -37,7 +37,7 @@ pub record IsStripped (pieces inner : List Piece) : Type 0 where
   pub behind : List Piece
   pub is : pieces ≡ before ++ (inner ++ behind)
   pub white_before : AreWhite before
-  pub white_behind : AreWhite behind
+  pub white_after : AreWhite behind
   pub begins : (p : Piece) (more : List Piece) → inner ≡ p ∷ more → is_white p.kind ≡ false
   pub ends : (more : List Piece) (p : Piece) → inner ≡ more ++ (p ∷ []) → is_white p.kind ≡ false
 
@@ -122,8 +122,8 @@ AreExpanded table n line hidden sum (a ∷ raw) (f ∷ full) sum' =
 AreExpanded table n line hidden sum raw full sum' = ⊥
 
 -- the line feeds of a call, on its line
-abbrev pub feeds_behind : ℕ → List Piece → List Piece
-feeds_behind line call = replicate (feeds_of (bytes_of call)) (feed line)
+abbrev pub feeds_after : ℕ → List Piece → List Piece
+feeds_after line call = replicate (feeds_of (bytes_of call)) (feed line)
 
 -- a piece names this macro, which is not hidden
 pub record Names (table : List Macro) (hidden : List ℕ) (p : Piece) (place : ℕ) (m : Macro) : Type 0 where
@@ -147,4 +147,4 @@ CallsReplaceNames = (table : List Macro) (n line place arity : ℕ) (hidden : Li
     → counted p.line m given.1 ≡ Ok sum → AreExpanded table n p.line hidden sum raw full sum' → IsFilled p.line raw full m.body m.marks out
     → expand_in table (suc n) line hidden (p ∷ (call ++ rest)) given
     ≡ (expand_in table n p.line (hidden ++ place ∷ []) out (given.0, sum')
-    >>= (λ done. expand_in table (suc n) line hidden rest (done.0 ++ feeds_behind p.line call, done.1)))
+    >>= (λ done. expand_in table (suc n) line hidden rest (done.0 ++ feeds_after p.line call, done.1)))

@@ -40,11 +40,11 @@ named table p = if is_word p.kind && not p.frozen then place_in table p.text els
 unfoldable pub put : Expander → ℕ → List ℕ → ℕ → Macro → List (List Piece) → List (List Piece) → Given → Outcome
 put inner line hidden place m raw full given = inner line (hidden ++ place ∷ []) (substituted line m.body m.marks raw full) given
 
-abbrev pub behind_name : Outcome → Step
-behind_name outcome = outcome >>= (λ given. Ok (0, given))
+abbrev pub after_name : Outcome → Step
+after_name outcome = outcome >>= (λ given. Ok (0, given))
 
 abbrev pub put_name : Expander → Piece → List ℕ → ℕ → Macro → List Piece → ℕ → Step
-put_name inner p hidden place m given sum = behind_name (put inner p.line hidden place m [] [] (given, sum))
+put_name inner p hidden place m given sum = after_name (put inner p.line hidden place m [] [] (given, sum))
 
 -- a name without parameters
 unfoldable pub object : Expander → Piece → List ℕ → ℕ → Macro → Given → Step
@@ -56,8 +56,8 @@ each inner line hidden [] done sum = Ok (done, sum)
 each inner line hidden (a ∷ more) done sum = inner line hidden a ([], sum) >>= (λ given. each inner line hidden more (done ++ given.0 ∷ []) given.1)
 
 -- the line feeds of a call follow what it gives
-abbrev pub behind_call : ℕ → List Piece → Outcome → Step
-behind_call line call outcome = outcome >>= (λ given. Ok (length call, (with_feeds line given.0 call, given.1)))
+abbrev pub after_call : ℕ → List Piece → Outcome → Step
+after_call line call outcome = outcome >>= (λ given. Ok (length call, (with_feeds line given.0 call, given.1)))
 
 abbrev pub put_full : Expander → ℕ → List ℕ → ℕ → Macro → List Piece → List (List Piece) → List (List Piece) × ℕ → Outcome
 put_full inner line hidden place m given raw full = put inner line hidden place m raw full.0 (given, full.1)
@@ -70,7 +70,7 @@ replaced inner line hidden place m given raw = counted line m given.1
 -- a call, by its pieces after the name and its arguments
 unfoldable pub called : Expander → Piece → List ℕ → ℕ → Macro → Given → List Piece → Option (List (List Piece)) → Step
 called inner p hidden place m given call None = refuse BadMacro p.line
-called inner p hidden place m given call (Some raw) = behind_call p.line call (replaced inner p.line hidden place m given raw)
+called inner p hidden place m given call (Some raw) = after_call p.line call (replaced inner p.line hidden place m given raw)
 
 -- a call, by the place of its )
 abbrev pub closed : Expander → Piece → List ℕ → ℕ → Macro → Given → List Piece → ℕ → ℕ → Option ℕ → Step

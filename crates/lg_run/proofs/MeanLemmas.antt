@@ -6,7 +6,7 @@ use Rattle.lg_meaning.specs.States.{State}
 use Rattle.lg_meaning.specs.Texts.{line_at}
 use Rattle.lg_meaning.specs.Means.{Run, machine, mean_from, run_at}
 use Rattle.lg_meaning.proofs.MeanLemmas.{means_are_machines}
-use Rattle.lg_mean.specs.Runs.{ComesTo, KeepsCountBehind}
+use Rattle.lg_mean.specs.Runs.{ComesTo, KeepsCountAfter}
 use Rattle.lg_mean.specs.declared.run.RunEnd.{RunEnd}
 use Rattle.lg_mean.specs.declared.run.RunEnd.TheVariants as runs_end
 use Rattle.lg_io.specs.SinkChanges.{SinkChange, Took}
@@ -62,11 +62,11 @@ module _ (l : LabelledNodes) (shape : TextShape) (A : List ℕ) (start : State) 
       (subst (λ n. MeanSays l meaning most n c (answer_of end)) same (comes end (after - before) most s c says))
 
   -- a write fault comes exactly where the count rose
-  pub writes : (end : RunEnd) (answer : Answer) (n most line : ℕ) (s : State) (c : SinkChange) → answer ≡ answer_of end → KeepsCountBehind end c.faults c.faults'
+  pub writes : (end : RunEnd) (answer : Answer) (n most line : ℕ) (s : State) (c : SinkChange) → answer ≡ answer_of end → KeepsCountAfter end c.faults c.faults'
       → ComesTo meaning end n most s line c.taken c.taken' c.faults c.faults' → TellsWrites answer c
   writes end answer n most line s c is kept says = subst (λ a. TellsWrites a c) (sym is) (at end kept says)
     where
-      at : (end : RunEnd) → KeepsCountBehind end c.faults c.faults' → ComesTo meaning end n most s line c.taken c.taken' c.faults c.faults' → TellsWrites (answer_of end) c
+      at : (end : RunEnd) → KeepsCountAfter end c.faults c.faults' → ComesTo meaning end n most s line c.taken c.taken' c.faults c.faults' → TellsWrites (answer_of end) c
       at (runs_end.Ended status) kept says = kept
       at (runs_end.Undefined line) kept says = kept
       at runs_end.StepsOut kept says = kept

@@ -7,7 +7,7 @@ use Rattle.std.proofs.lemmas.Bool.Decides.{nat_tests}
 use Rattle.lg_back.specs.Words.{is_free}
 use Rattle.lg_back.proofs.WordLemmas.{free-append, free-one}
 use Rattle.lg_list.specs.Texts.{decimal, signed_decimal, displacement, hex}
-use Rattle.lg_list.specs.Operands.{x86_name, register_name, spelled, spelled_behind, text}
+use Rattle.lg_list.specs.Operands.{x86_name, register_name, spelled, spelled_after, text}
 use Rattle.lg_list.specs.declared.operand.Register.{Register}
 use Rattle.lg_list.specs.declared.operand.Register.TheVariants as register
 use Rattle.lg_list.specs.declared.operand.Operand.{Operand}
@@ -75,9 +75,9 @@ spelled_free (operand.Indexed base index) =
     (free-append 10 (codes "[" ++ register_name base) (codes "+") (free-append 10 (codes "[") (register_name base) refl (register_free base)) refl) (register_free index)) refl
 spelled_free (operand.Target a) = free-append 10 (codes "0x") (hex (to_be_bytes w32 a)) refl (hex_free (to_be_bytes w32 a))
 
-behind_free : (before : List ℕ) (os : List Operand) → is_free 10 before ≡ true → is_free 10 (spelled_behind before os) ≡ true
-behind_free before [] e = refl
-behind_free before (o ∷ os) e = free-append 10 (before ++ spelled o) (spelled_behind (codes ", ") os) (free-append 10 before (spelled o) e (spelled_free o)) (behind_free (codes ", ") os refl)
+after_free : (before : List ℕ) (os : List Operand) → is_free 10 before ≡ true → is_free 10 (spelled_after before os) ≡ true
+after_free before [] e = refl
+after_free before (o ∷ os) e = free-append 10 (before ++ spelled o) (spelled_after (codes ", ") os) (free-append 10 before (spelled o) e (spelled_free o)) (after_free (codes ", ") os refl)
 
 pub words_free : (name : List ℕ) (os : List Operand) → is_free 10 name ≡ true → is_free 10 (text name os) ≡ true
-words_free name os e = free-append 10 name (spelled_behind (codes " ") os) e (behind_free (codes " ") os refl)
+words_free name os e = free-append 10 name (spelled_after (codes " ") os) e (after_free (codes " ") os refl)

@@ -40,9 +40,9 @@ unfolding pieces
 piece_added all text new k x h before now =
     added all text (one_piece x).0 (pieces (64 - (k + 1)) (one_piece x).1).0 new (before ∙ ap (λ n. text ++ (pieces n x).0) (one_less 64 k h)) now
 
-pub state_behind : (k x : ℕ) → k < 64 → (pieces (64 - k) x).1 ≡ (pieces (64 - (k + 1)) (one_piece x).1).1
+pub state_after : (k x : ℕ) → k < 64 → (pieces (64 - k) x).1 ≡ (pieces (64 - (k + 1)) (one_piece x).1).1
 unfolding pieces
-state_behind k x h = ap (λ n. (pieces n x).1) (one_less 64 k h)
+state_after k x h = ap (λ n. (pieces n x).1) (one_less 64 k h)
 
 pub pieces_whole : (all text : List ℕ) (k x : ℕ) → 64 ≤ k → all ≡ text ++ (pieces (64 - k) x).0 → text ≡ all
 unfolding pieces

@@ -41,7 +41,7 @@ use std::alloc::Global;
 // ---- the run
 
 // Why the next step of a machine is undefined, where its run came to such a step.
-fn stuck_behind(end: RunEnd, machine: &Portable, unit: &Unit, shape: &Shape) -> Option<StuckAt>
+fn stuck_after(end: RunEnd, machine: &Portable, unit: &Unit, shape: &Shape) -> Option<StuckAt>
     requires made { IsTableOf unit.now.nodes shape.now machine.now.labels }
     requires fits { Fits unit.now.nodes shape.now (state_of machine.now.machine) }
     requires undefined { IsStepUndefined end unit.now.nodes shape.now machine.now.labels.addresses (state_of machine.now.machine) }
@@ -79,7 +79,7 @@ fn run_explained<O: Sink>(
             steps: machine.steps(),
         },
         tally: None,
-        stuck: stuck_behind(end, machine, unit, shape),
+        stuck: stuck_after(end, machine, unit, shape),
     }
 }
 

@@ -44,7 +44,7 @@ module _ {L I : Type 0} (H : Holes L I) (spelling : I → List ℕ) (fits : I �
     behind = f.behind;
     fixes = f.among ∙ ap (λ l. f.before ++ (l ++ f.behind)) fixes;
     apart_before = subst (λ n. All (IsApartFrom place n) f.before) long f.apart_before;
-    apart_behind = subst (λ n. All (IsApartFrom place n) f.behind) long f.apart_behind;
+    apart_after = subst (λ n. All (IsApartFrom place n) f.behind) long f.apart_after;
   }
 
   settled-there : IsSettled spelling fits code place (place + length (blanks H items)) (settled H to (code_base + place) items)

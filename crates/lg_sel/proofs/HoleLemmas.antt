@@ -47,12 +47,12 @@ module _ {L I : Type 0} (H : Holes L I) (spelling : I → List ℕ) (fits : I �
       let here = ok.long to p x each.0 in let rest = settled-bytes to q xs each.1 in omega (arith, split, sum, size, here, rest)
 
   -- the fixes of items lie after the place where they begin
-  fixes-behind : (p q : ℕ) (items : List L) → Each is_item items → q ≤ p → All (λ f. q ≤ f.place) (fixes_of H p items)
-  fixes-behind p q [] each h = All-nil (λ f. q ≤ f.place)
-  fixes-behind p q (x ∷ xs) each h =
+  fixes-after : (p q : ℕ) (items : List L) → Each is_item items → q ≤ p → All (λ f. q ≤ f.place) (fixes_of H p items)
+  fixes-after p q [] each h = All-nil (λ f. q ≤ f.place)
+  fixes-after p q (x ∷ xs) each h =
       All-append (λ f. q ≤ f.place) (H.fix_of p x) (fixes_of H (p + length (H.blank x)) xs)
       (All-weaker (IsWithin p (length (H.blank x))) (λ f. q ≤ f.place) (λ f w. omega (arith, w.0, h)) (H.fix_of p x) (ok.within p x each.0))
-      (fixes-behind (p + length (H.blank x)) q xs each.1 (omega (arith, h)))
+      (fixes-after (p + length (H.blank x)) q xs each.1 (omega (arith, h)))
 
   -- the fixes of an item have none of the bytes after it
   fixes-apart : (p n : ℕ) (x : L) → is_item x → All (IsApartFrom (p + length (H.blank x)) n) (H.fix_of p x)
@@ -76,7 +76,7 @@ module _ {L I : Type 0} (H : Holes L I) (spelling : I → List ℕ) (fits : I �
         apart_before = All-append (IsApartFrom q (length (blanks H xs))) s.before (H.fix_of p x)
             (All-weaker (IsApartFrom p (length (blanks H (x ∷ xs)))) (IsApartFrom q (length (blanks H xs))) less s.before s.apart_before)
             (fixes-apart p (length (blanks H xs)) x item);
-        apart_behind = All-weaker (IsApartFrom p (length (blanks H (x ∷ xs)))) (IsApartFrom q (length (blanks H xs))) less s.behind s.apart_behind;
+        apart_after = All-weaker (IsApartFrom p (length (blanks H (x ∷ xs)))) (IsApartFrom q (length (blanks H xs))) less s.behind s.apart_after;
       }
 
   module _ (labels : List (Option ℕ)) (fixes : List Fix) (emitted finished : List ℕ) (to : ℕ → ℕ) (done : AreDone labels fixes (length fixes) emitted finished)
@@ -108,9 +108,9 @@ module _ {L I : Type 0} (H : Holes L I) (spelling : I → List ℕ) (fits : I �
               let before = All-weaker (IsApartFrom p (length (blanks H (x ∷ xs)))) (IsOutside i)
               (apart-outside p (length (blanks H (x ∷ xs))) i from inside) s.before s.apart_before in
               let after = All-weaker (IsApartFrom p (length (blanks H (x ∷ xs)))) (IsOutside i)
-              (apart-outside p (length (blanks H (x ∷ xs))) i from inside) s.behind s.apart_behind in
+              (apart-outside p (length (blanks H (x ∷ xs))) i from inside) s.behind s.apart_after in
               let later = All-weaker (λ f. q ≤ f.place) (IsOutside i) (λ f h. inl (omega (arith, h, below))) (fixes_of H q xs)
-              (fixes-behind q q xs each (omega arith)) in
+              (fixes-after q q xs each (omega arith)) in
               let all : All (IsOutside i) fixes = subst (All (IsOutside i)) (sym s.fixes)
               (All-append (IsOutside i) s.before (fixes_of H p (x ∷ xs) ++ s.behind) before
               (All-append (IsOutside i) (fixes_of H p (x ∷ xs)) s.behind (All-append (IsOutside i) (H.fix_of p x) (fixes_of H q xs) own later) after)) in

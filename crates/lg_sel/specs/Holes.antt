@@ -109,7 +109,7 @@ pub record StandAt {L I : Type 0} (H : Holes L I) (emitted : List ℕ) (all_fixe
   pub behind : List Fix
   pub fixes : all_fixes ≡ before ++ (fixes_of H place items ++ behind)
   pub apart_before : All (IsApartFrom place (length (blanks H items))) before
-  pub apart_behind : All (IsApartFrom place (length (blanks H items))) behind
+  pub apart_after : All (IsApartFrom place (length (blanks H items))) behind
 
 -- where the fixes of a buffer are patched, items that are in it become instructions with the addresses of the labels
 abbrev pub ItemsAreSettled : {L I : Type 0} → Holes L I → (I → List ℕ) → (I → Type 0) → (L → Type 0) → Type 0

@@ -115,7 +115,7 @@ pub record IsFinished (old new : Buffer) (code : List ℕ) (c : Code) (i : ℕ) 
   pub behind : List Fix
   pub among : fixes ≡ before ++ (drop (length old.fixes) new.fixes ++ behind)
   pub apart_before : All (IsApartFrom (length old.bytes) (length new.bytes - length old.bytes)) before
-  pub apart_behind : All (IsApartFrom (length old.bytes) (length new.bytes - length old.bytes)) behind
+  pub apart_after : All (IsApartFrom (length old.bytes) (length new.bytes - length old.bytes)) behind
   pub here : c.place i ≡ code_base + length old.bytes
   pub next : c.place (i + 1) ≡ code_base + length new.bytes
   pub addresses : HaveAddresses labels (slice_index c.addresses)

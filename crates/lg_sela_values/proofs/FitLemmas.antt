@@ -175,14 +175,14 @@ load-good t (operand.Reg r) h = tt
 load-good t (operand.Slot k) h = tt
 
 -- code after a word that is loaded
-behind-good : (t : ℕ) (x : Operand) (is : List Instr) → Fine t → AreGood is → Each IsGoodItem (load_items t x ++ ones is)
-behind-good t x is h k = items-good (load_items t x) (ones is) (load-good t x h) (ones-good is k)
+after-good : (t : ℕ) (x : Operand) (is : List Instr) → Fine t → AreGood is → Each IsGoodItem (load_items t x ++ ones is)
+after-good t x is h k = items-good (load_items t x) (ones is) (load-good t x h) (ones-good is k)
 
 second-good : (o : BinaryOp) (u d a : ℕ) (x : Operand) → Fine u → Fine d → a < 32 → Each IsGoodItem (load_items (second_register o u) x ++ ones (register_code o d a (second_register o u)))
 second-good o u d a x g h k =
     let t = second_register o u in
     let f = second-fine o u g in
-    behind-good t x (register_code o d a t) f (register-good o d a t h k f.0)
+    after-good t x (register_code o d a t) f (register-good o d a t h k f.0)
 
 binary-good : (o : BinaryOp) (u d a : ℕ) (x : Operand) → Fine u → Fine d → a < 32 → Each IsGoodItem (binary_items o u d a x)
 binary-good o u d a (operand.Reg r) g h k = let l = register-small r in ones-good (register_code o d a (register_of Aarch64 r)) (register-good o d a (register_of Aarch64 r) h k (omega (arith, l)))
@@ -193,10 +193,10 @@ binary-good o u d a (operand.Slot j) g h k = second-good o u d a (operand.Slot j
 
 wide-items-good : (o : WideOp) (d e a : ℕ) (x : Operand) → Fine d → Fine e → a < 32 → Each IsGoodItem (wide_items o d e a x)
 wide-items-good o d e a (operand.Reg r) h i k = let l = register-small r in ones-good (wide_code o d e a (register_of Aarch64 r)) (wide-good o d e a (register_of Aarch64 r) h i k (omega (arith, l)))
-wide-items-good o d e a (operand.Number v) h i k = behind-good link (operand.Number v) (wide_by_link o d e a) link-fine (link-good o d e a h i k)
-wide-items-good o d e a (operand.Host name) h i k = behind-good link (operand.Host name) (wide_by_link o d e a) link-fine (link-good o d e a h i k)
-wide-items-good o d e a (operand.Label l) h i k = behind-good link (operand.Label l) (wide_by_link o d e a) link-fine (link-good o d e a h i k)
-wide-items-good o d e a (operand.Slot j) h i k = behind-good link (operand.Slot j) (wide_by_link o d e a) link-fine (link-good o d e a h i k)
+wide-items-good o d e a (operand.Number v) h i k = after-good link (operand.Number v) (wide_by_link o d e a) link-fine (link-good o d e a h i k)
+wide-items-good o d e a (operand.Host name) h i k = after-good link (operand.Host name) (wide_by_link o d e a) link-fine (link-good o d e a h i k)
+wide-items-good o d e a (operand.Label l) h i k = after-good link (operand.Label l) (wide_by_link o d e a) link-fine (link-good o d e a h i k)
+wide-items-good o d e a (operand.Slot j) h i k = after-good link (operand.Slot j) (wide_by_link o d e a) link-fine (link-good o d e a h i k)
 
 register-fine : (x : Operand) → Fine (register_for Aarch64 x)
 register-fine (operand.Reg r) = let l = register-small r in (omega (arith, l), portable r)

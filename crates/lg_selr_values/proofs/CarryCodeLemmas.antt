@@ -45,18 +45,18 @@ either-borrows : (a b c : ℕ) → a < 2 ^ 64 → b < 2 ^ 64 → c < 2 → (is_l
 either-borrows a b c h k l = grind (arith, h, k, l)
 
 -- ---- the carry or the borrow after the operation
-abbrev pub carry_behind : BinaryOp → ℕ → ℕ → ℕ → Bool
-carry_behind o a b c = if is_sum o then carry_out a b c else borrow_out a b c
+abbrev pub carry_after : BinaryOp → ℕ → ℕ → ℕ → Bool
+carry_after o a b c = if is_sum o then carry_out a b c else borrow_out a b c
 
 -- the registers after the code hold the word and the carry
 pub record HoldsWithCarry (o : BinaryOp) (d x y c : ℕ) (u : ℕ → ℕ) : Type 0 where
   pub value : u d ≡ value_with_carry o x y c
-  pub carry : u 31 ≡ word_of_test (carry_behind o x y c)
+  pub carry : u 31 ≡ word_of_test (carry_after o x y c)
 
 -- the operations that take no carry
 module _ (u d a : ℕ) (d1 : d ≢ 1) (d31 : d ≢ 31) (d0 : d ≢ 0) (a31 : a ≢ 31) (w : ℕ → ℕ) (x y : ℕ) (xs : x < 2 ^ 64) (ys : y < 2 ^ 64) (ex : read w a ≡ x) (ey : w 1 ≡ y) where
-  addc-behind : computed (carry_code binary.Addc u d a) w ≡ put (put w d (add_words x y)) 31 (word_of_test (is_less (add_words x y) y))
-  addc-behind =
+  addc-after : computed (carry_code binary.Addc u d a) w ≡ put (put w d (add_words x y)) 31 (word_of_test (is_less (add_words x y) y))
+  addc-after =
       let w1 = put w d (add_words x y) in
       let e1 : put w d (add_words (read w a) (w 1)) ≡ w1 = λ i. put w d (add_words (ex i) (ey i)) in
       let r1 : read w1 d ≡ add_words x y = read-put w d (add_words x y) d0 in
@@ -65,12 +65,12 @@ module _ (u d a : ℕ) (d1 : d ≢ 1) (d31 : d ≢ 31) (d0 : d ≢ 0) (a31 : a �
 
   pub addc-holds : HoldsWithCarry binary.Addc d x y 0 (computed (carry_code binary.Addc u d a) w)
   addc-holds = record {
-    value = ap (λ v. v d) addc-behind ∙ put-other (put w d (add_words x y)) 31 _ d d31 ∙ put-same w d (add_words x y) ∙ sum-value x y;
-    carry = ap (λ v. v 31) addc-behind ∙ put-same (put w d (add_words x y)) 31 _ ∙ sum-carry x y xs ys;
+    value = ap (λ v. v d) addc-after ∙ put-other (put w d (add_words x y)) 31 _ d d31 ∙ put-same w d (add_words x y) ∙ sum-value x y;
+    carry = ap (λ v. v 31) addc-after ∙ put-same (put w d (add_words x y)) 31 _ ∙ sum-carry x y xs ys;
   }
 
-  subc-behind : computed (carry_code binary.Subc u d a) w ≡ put (put w 31 (word_of_test (is_less x y))) d (sub_words x y)
-  subc-behind =
+  subc-after : computed (carry_code binary.Subc u d a) w ≡ put (put w 31 (word_of_test (is_less x y))) d (sub_words x y)
+  subc-after =
       let w1 = put w 31 (word_of_test (is_less x y)) in
       let e1 : put w 31 (word_of_test (is_less (read w a) (w 1))) ≡ w1 = λ i. put w 31 (word_of_test (is_less (ex i) (ey i))) in
       let r1 : read w1 a ≡ x = read-other w 31 (word_of_test (is_less x y)) a a31 ∙ ex in
@@ -79,8 +79,8 @@ module _ (u d a : ℕ) (d1 : d ≢ 1) (d31 : d ≢ 31) (d0 : d ≢ 0) (a31 : a �
 
   pub subc-holds : HoldsWithCarry binary.Subc d x y 0 (computed (carry_code binary.Subc u d a) w)
   subc-holds = record {
-    value = ap (λ v. v d) subc-behind ∙ put-same (put w 31 (word_of_test (is_less x y))) d (sub_words x y) ∙ difference-value x y xs ys;
-    carry = ap (λ v. v 31) subc-behind ∙ put-other (put w 31 (word_of_test (is_less x y))) d _ 31 (λ e. d31 (sym e)) ∙ put-same w 31 (word_of_test (is_less x y)) ∙ difference-carry x y;
+    value = ap (λ v. v d) subc-after ∙ put-same (put w 31 (word_of_test (is_less x y))) d (sub_words x y) ∙ difference-value x y xs ys;
+    carry = ap (λ v. v 31) subc-after ∙ put-other (put w 31 (word_of_test (is_less x y))) d _ 31 (λ e. d31 (sym e)) ∙ put-same w 31 (word_of_test (is_less x y)) ∙ difference-carry x y;
   }
 
 -- those that take one, over a temporary
@@ -114,8 +114,8 @@ module _ (u d a : ℕ) (u0 : u ≢ 0) (u1 : u ≢ 1) (u31 : u ≢ 31) (ud : u �
   abbrev t2 : ℕ
   t2 = word_of_test (is_less v k)
 
-  addx-behind : computed (carry_code binary.Addx u d a) w ≡ put (put (put (put (put w u s) 1 t1) d v) 31 t2) 31 (bit_or t2 t1)
-  addx-behind =
+  addx-after : computed (carry_code binary.Addx u d a) w ≡ put (put (put (put (put w u s) 1 t1) d v) 31 t2) 31 (bit_or t2 t1)
+  addx-after =
       let w1 = put w u s in
       let w2 = put w1 1 t1 in
       let w3 = put w2 d v in
@@ -142,8 +142,8 @@ module _ (u d a : ℕ) (u0 : u ≢ 0) (u1 : u ≢ 1) (u31 : u ≢ 31) (ud : u �
   addx-holds =
       let w2 = put (put w u s) 1 t1 in
       record {
-        value = ap (λ z. z d) addx-behind ∙ put-other (put (put w2 d v) 31 t2) 31 _ d d31 ∙ put-other (put w2 d v) 31 t2 d d31 ∙ put-same w2 d v ∙ add-twice x y k;
-        carry = ap (λ z. z 31) addx-behind ∙ put-same (put (put w2 d v) 31 t2) 31 (bit_or t2 t1) ∙ or-tests (is_less v k) (is_less s y) ∙ ap word_of_test (either-carries x y k xs ys k-small);
+        value = ap (λ z. z d) addx-after ∙ put-other (put (put w2 d v) 31 t2) 31 _ d d31 ∙ put-other (put w2 d v) 31 t2 d d31 ∙ put-same w2 d v ∙ add-twice x y k;
+        carry = ap (λ z. z 31) addx-after ∙ put-same (put (put w2 d v) 31 t2) 31 (bit_or t2 t1) ∙ or-tests (is_less v k) (is_less s y) ∙ ap word_of_test (either-carries x y k xs ys k-small);
       }
 
   abbrev b : ℕ
@@ -155,8 +155,8 @@ module _ (u d a : ℕ) (u0 : u ≢ 0) (u1 : u ≢ 1) (u31 : u ≢ 31) (ud : u �
   abbrev g : ℕ
   g = word_of_test (is_less f k)
 
-  subx-behind : computed (carry_code binary.Subx u d a) w ≡ put (put (put (put (put w u b) 1 f) d (sub_words f k)) 31 g) 31 (bit_or g b)
-  subx-behind =
+  subx-after : computed (carry_code binary.Subx u d a) w ≡ put (put (put (put (put w u b) 1 f) d (sub_words f k)) 31 g) 31 (bit_or g b)
+  subx-after =
       let w1 = put w u b in
       let w2 = put w1 1 f in
       let w3 = put w2 d (sub_words f k) in
@@ -183,8 +183,8 @@ module _ (u d a : ℕ) (u0 : u ≢ 0) (u1 : u ≢ 1) (u31 : u ≢ 31) (ud : u �
   subx-holds =
       let w2 = put (put w u b) 1 f in
       record {
-        value = ap (λ z. z d) subx-behind ∙ put-other (put (put w2 d (sub_words f k)) 31 g) 31 _ d d31 ∙ put-other (put w2 d (sub_words f k)) 31 g d d31 ∙ put-same w2 d (sub_words f k) ∙ sub-twice x y k xs ys k-small;
-        carry = ap (λ z. z 31) subx-behind ∙ put-same (put (put w2 d (sub_words f k)) 31 g) 31 (bit_or g b) ∙ or-tests (is_less f k) (is_less x y) ∙ ap word_of_test (either-borrows x y k xs ys k-small);
+        value = ap (λ z. z d) subx-after ∙ put-other (put (put w2 d (sub_words f k)) 31 g) 31 _ d d31 ∙ put-other (put w2 d (sub_words f k)) 31 g d d31 ∙ put-same w2 d (sub_words f k) ∙ sub-twice x y k xs ys k-small;
+        carry = ap (λ z. z 31) subx-after ∙ put-same (put (put w2 d (sub_words f k)) 31 g) 31 (bit_or g b) ∙ or-tests (is_less f k) (is_less x y) ∙ ap word_of_test (either-borrows x y k xs ys k-small);
       }
 
 -- other registers are kept; only the operations that take a carry write the temporary

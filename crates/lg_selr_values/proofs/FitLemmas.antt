@@ -212,22 +212,22 @@ second-good (operand.Label l) = load-good 1 (operand.Label l) link-fine
 second-good (operand.Slot k) = load-good 1 (operand.Slot k) link-fine
 
 -- code after a word that is loaded
-behind-good : (t : ℕ) (x : Operand) (is : List Instr) → Fine t → AreGood is → Each IsGoodItem (load_items t x ++ ones is)
-behind-good t x is h k = items-good (load_items t x) (ones is) (load-good t x h) (ones-good is k)
+after-good : (t : ℕ) (x : Operand) (is : List Instr) → Fine t → AreGood is → Each IsGoodItem (load_items t x ++ ones is)
+after-good t x is h k = items-good (load_items t x) (ones is) (load-good t x h) (ones-good is k)
 
 binary-good : (o : BinaryOp) (d a : ℕ) (x : Operand) → Fine d → a < 32 → Each IsGoodItem (binary_items o d a x)
 binary-good o d a (operand.Reg r) h k = ones-good (register_code o d a (register_of Riscv64 r)) (register-good o d a (register_of Riscv64 r) h k (register-small r))
 binary-good o d a (operand.Number v) h k = ones-good (number_form_code o d a v) (form-good o d a v h k)
-binary-good o d a (operand.Host name) h k = behind-good 1 (operand.Host name) (register_code o d a 1) link-fine (register-good o d a 1 h k (omega arith))
-binary-good o d a (operand.Label l) h k = behind-good 1 (operand.Label l) (register_code o d a 1) link-fine (register-good o d a 1 h k (omega arith))
-binary-good o d a (operand.Slot j) h k = behind-good 1 (operand.Slot j) (register_code o d a 1) link-fine (register-good o d a 1 h k (omega arith))
+binary-good o d a (operand.Host name) h k = after-good 1 (operand.Host name) (register_code o d a 1) link-fine (register-good o d a 1 h k (omega arith))
+binary-good o d a (operand.Label l) h k = after-good 1 (operand.Label l) (register_code o d a 1) link-fine (register-good o d a 1 h k (omega arith))
+binary-good o d a (operand.Slot j) h k = after-good 1 (operand.Slot j) (register_code o d a 1) link-fine (register-good o d a 1 h k (omega arith))
 
 wide-items-good : (o : WideOp) (d e a : ℕ) (x : Operand) → Fine d → Fine e → a < 32 → Each IsGoodItem (wide_items o d e a x)
 wide-items-good o d e a (operand.Reg r) h i k = ones-good (wide_code o d e a (register_of Riscv64 r)) (wide-good o d e a (register_of Riscv64 r) h i k (register-small r))
-wide-items-good o d e a (operand.Number v) h i k = behind-good 31 (operand.Number v) (wide_code o d e a 31) carry-fine (wide-good o d e a 31 h i k (omega arith))
-wide-items-good o d e a (operand.Host name) h i k = behind-good 31 (operand.Host name) (wide_code o d e a 31) carry-fine (wide-good o d e a 31 h i k (omega arith))
-wide-items-good o d e a (operand.Label l) h i k = behind-good 31 (operand.Label l) (wide_code o d e a 31) carry-fine (wide-good o d e a 31 h i k (omega arith))
-wide-items-good o d e a (operand.Slot j) h i k = behind-good 31 (operand.Slot j) (wide_code o d e a 31) carry-fine (wide-good o d e a 31 h i k (omega arith))
+wide-items-good o d e a (operand.Number v) h i k = after-good 31 (operand.Number v) (wide_code o d e a 31) carry-fine (wide-good o d e a 31 h i k (omega arith))
+wide-items-good o d e a (operand.Host name) h i k = after-good 31 (operand.Host name) (wide_code o d e a 31) carry-fine (wide-good o d e a 31 h i k (omega arith))
+wide-items-good o d e a (operand.Label l) h i k = after-good 31 (operand.Label l) (wide_code o d e a 31) carry-fine (wide-good o d e a 31 h i k (omega arith))
+wide-items-good o d e a (operand.Slot j) h i k = after-good 31 (operand.Slot j) (wide_code o d e a 31) carry-fine (wide-good o d e a 31 h i k (omega arith))
 
 operation-good : (o : BinaryOp) (u d a : ℕ) (x : Operand) → Fine u → Fine d → a < 32 → Each IsGoodItem (operation_items o u d a x)
 operation-good o u d a x g h k = by (sets_carry o)

@@ -76,8 +76,8 @@ wide_more (suc n) rd v h e k =
     (λ i. if e i then short_code rd v else if k i then half_code rd v else wide_code n rd (above v) ++ low_code rd v) ∙ ap (λ x. wide_code x rd (above v) ++ low_code rd v) m
 
 -- ---- instructions that are appended
-pub words_behind : (xs : List Item) (is : List Instr) → words_in (xs ++ ones is) ≡ words_in xs + length is
-words_behind xs is = words_append xs (ones is) ∙ ap (λ n. words_in xs + n) (words-ones is)
+pub words_after : (xs : List Item) (is : List Instr) → words_in (xs ++ ones is) ≡ words_in xs + length is
+words_after xs is = words_append xs (ones is) ∙ ap (λ n. words_in xs + n) (words-ones is)
 
 pub ones_behind : (xs : List Item) (is js : List Instr) → (xs ++ ones is) ++ ones js ≡ xs ++ ones (is ++ js)
 ones_behind xs is js = append_assoc xs (ones is) (ones js) ∙ ap (λ ys. xs ++ ys) (sym (ones-append is js))
@@ -88,7 +88,7 @@ pub wide_room : (xs : List Item) (n rd v a : ℕ) → 0 < n → a ≡ above v �
 wide_room xs n rd v a some is short half room =
     let e = ap length (wide_more n rd v some short half) in
     let l = length-append (wide_code (n - 1) rd (above v)) (low_code rd v) in
-    let w = words_behind xs (wide_code (n - 1) rd a) in
+    let w = words_after xs (wide_code (n - 1) rd a) in
     let m = ap (λ x. length (wide_code (n - 1) rd x)) is in
     omega (arith, e, l, w, m, room)
 
@@ -96,6 +96,6 @@ pub long_room : (xs : List Item) (rd v a : ℕ) → a ≡ above v → words_in x
 unfolding long_code
 long_room xs rd v a is room =
     let l = length-append (wide_code 2 rd (above v)) (low_code rd v) in
-    let w = words_behind xs (wide_code 2 rd a) in
+    let w = words_after xs (wide_code 2 rd a) in
     let m = ap (λ x. length (wide_code 2 rd x)) is in
     omega (arith, l, w, m, room)

@@ -94,9 +94,9 @@ module _ (d : ℕ) (some : d ≢ 0) (link : d ≢ 1) (carry : d ≢ 31) where
   link-carry = λ e. absurd (omega (arith, e))
 
   -- the registers after one further byte
-  behind-byte : (w : ℕ → ℕ) (x y : ℕ) → w 1 ≡ x → read w d ≡ y
+  after-byte : (w : ℕ → ℕ) (x y : ℕ) → w 1 ≡ x → read w d ≡ y
       → computed (more_bytes_code d 1) w ≡ put (put (put (put w 1 (x / 256)) 31 (bit_and (x / 256) 255)) d (shifted_left y 8)) d (bit_or (shifted_left y 8) (bit_and (x / 256) 255))
-  behind-byte w x y ex ey =
+  after-byte w x y ex ey =
       let w1 = put w 1 (x / 256) in
       let w2 = put w1 31 (bit_and (x / 256) 255) in
       let w3 = put w2 d (shifted_left y 8) in
@@ -124,7 +124,7 @@ module _ (d : ℕ) (some : d ≢ 0) (link : d ≢ 1) (carry : d ≢ 31) where
       let joined : bit_or s v ≡ y * 256 + x / 256 % 256 = byte-joined y v (fits-shift (room_for n) y (room-small n) small) b ∙ ap (λ z. y * 256 + z) (low-byte (x / 256)) in
       let at-link : u 1 ≡ x / 256 = put-other (put (put (put w 1 (x / 256)) 31 v) d s) d (bit_or s v) 1 (λ e. link (sym e)) ∙ put-other (put (put w 1 (x / 256)) 31 v) d s 1 (λ e. link (sym e)) ∙ put-other (put w 1 (x / 256)) 31 v 1 link-carry ∙ put-same w 1 (x / 256) in
       let at-d : read u d ≡ y * 256 + x / 256 % 256 = read-put (put (put (put w 1 (x / 256)) 31 v) d s) d (bit_or s v) some ∙ joined in
-      ap (λ z. computed (more_bytes_code d n) z d) (behind-byte w x y ex ey)
+      ap (λ z. computed (more_bytes_code d n) z d) (after-byte w x y ex ey)
       ∙ more-bytes n u (x / 256) (y * 256 + x / 256 % 256) at-link at-d (fits-more (room_for n) y (x / 256 % 256) small (omega arith))
 
   more-keep : (n : ℕ) (w : ℕ → ℕ) (r : ℕ) → r ≢ d → r ≢ 1 → r ≢ 31 → computed (more_bytes_code d n) w r ≡ w r

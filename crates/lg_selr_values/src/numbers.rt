@@ -87,7 +87,7 @@ fn put_low(rd: u8, value: u64, items: &mut Items<Item>)
 }
 
 // Appends the code that loads a number of at most 32 bits and 12 for each of `n` steps. There is room for it.
-#[tactic(auto, using(crate::proofs::NumberLemmas::wide_none, crate::proofs::NumberLemmas::wide_short, crate::proofs::NumberLemmas::wide_half, crate::proofs::NumberLemmas::wide_more, crate::proofs::NumberLemmas::words_behind, crate::proofs::NumberLemmas::ones_behind))]
+#[tactic(auto, using(crate::proofs::NumberLemmas::wide_none, crate::proofs::NumberLemmas::wide_short, crate::proofs::NumberLemmas::wide_half, crate::proofs::NumberLemmas::wide_more, crate::proofs::NumberLemmas::words_after, crate::proofs::NumberLemmas::ones_behind))]
 fn put_wide(n: u32, rd: u8, value: u64, items: &mut Items<Item>)
     requires { words_in items.old + length (wide_code n rd value) ≤ 64 }
     ensures { items.new ≡ items.old ++ ones (wide_code n rd value) }
@@ -105,7 +105,7 @@ fn put_wide(n: u32, rd: u8, value: u64, items: &mut Items<Item>)
 }
 
 // Appends the code that loads any number. There is room for it.
-#[tactic(auto, using(crate::proofs::NumberLemmas::words_behind, crate::proofs::NumberLemmas::ones_behind), unfolding(crate::specs::Processor::Numbers::long_code))]
+#[tactic(auto, using(crate::proofs::NumberLemmas::words_after, crate::proofs::NumberLemmas::ones_behind), unfolding(crate::specs::Processor::Numbers::long_code))]
 fn put_long(rd: u8, value: u64, items: &mut Items<Item>)
     requires { words_in items.old + length (long_code rd value) ≤ 64 }
     ensures { items.new ≡ items.old ++ ones (long_code rd value) }

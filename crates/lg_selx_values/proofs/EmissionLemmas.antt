@@ -23,8 +23,8 @@ one_words xs i = words_append xs (One i ∷ [])
 words_more : (xs : List Item) (is : List Instr) → words_in (xs ++ ones is) ≡ words_in xs + length is
 words_more xs is = words_append xs (ones is) ∙ ap (λ n. words_in xs + n) (words-ones is)
 
-pub behind_words : (xs : List Item) (d a : ℕ) (is : List Instr) → words_in (xs ++ ones (moved d a ++ is)) ≤ words_in xs + 1 + length is
-behind_words xs d a is =
+pub after_words : (xs : List Item) (d a : ℕ) (is : List Instr) → words_in (xs ++ ones (moved d a ++ is)) ≤ words_in xs + 1 + length is
+after_words xs d a is =
     let w = words_more xs (moved d a ++ is) in
     let l = length-append (moved d a) is in
     let f = moved-few (d == a) in omega (arith, w, l, f)

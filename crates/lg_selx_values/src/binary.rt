@@ -5,7 +5,7 @@ ghost use Rattle.lg_selx_values.specs.Items.{ones, words_in};
 ghost use Rattle.lg_selx_values.specs.BinaryCode.{ordered, commuting, added, difference, product, compared, shifted, high_half, division, is_dividend, divided, cond_of, register_code, with_number, is_near, added_number, less_number, compared_number, product_number, shifted_number, divided_number, number_form_code};
 
 use crate::moves::{
-    RAX, RCX, RDX, SCRATCH, again, behind_move, behind_number, ext, imm, moved, one, sign,
+    RAX, RCX, RDX, SCRATCH, after_move, after_number, again, ext, imm, moved, one, sign,
 };
 use crate::{Item, half_number, lea, mov, row};
 use lg_base::word::is_half;
@@ -19,7 +19,7 @@ pub(crate) fn ordered(op: RmRegOp, d: u8, a: u8, b: u8, items: &mut Items<Item>)
     requires { words_in items.old + 2 ≤ 64 }
     ensures { items.new ≡ items.old ++ ones (ordered op d a b) }
 {
-    behind_move(d, a, &[row(op, d, b)], items);
+    after_move(d, a, &[row(op, d, b)], items);
 }
 
 /// Appends the code of an operation in which the order of the words does not matter: at most 2 instructions, for which there is room.
@@ -70,7 +70,7 @@ fn product(d: u8, a: u8, b: u8, items: &mut Items<Item>)
     if d == b {
         items.one(ext(RegRmOp::Imul, d, a));
     } else {
-        behind_move(d, a, &[ext(RegRmOp::Imul, d, b)], items);
+        after_move(d, a, &[ext(RegRmOp::Imul, d, b)], items);
     }
 }
 
@@ -103,7 +103,7 @@ fn shifted(op: UnaryOp, d: u8, a: u8, b: u8, items: &mut Items<Item>)
     ensures { items.new ≡ items.old ++ ones (shifted op d a b) }
 {
     items.one(mov(RCX, b));
-    behind_move(d, a, &[one(op, d)], items);
+    after_move(d, a, &[one(op, d)], items);
 }
 
 // Returns the high half of a dividend: the sign of rax, or 0.
@@ -136,7 +136,7 @@ fn is_dividend(r: u8) -> bool
 }
 
 // Appends the code of a quotient or its remainder, which is in `r`: at most 7 instructions, for which there is room.
-#[tactic(auto, using(crate::proofs::EmissionLemmas::ones_twice, crate::proofs::EmissionLemmas::behind_words))]
+#[tactic(auto, using(crate::proofs::EmissionLemmas::ones_twice, crate::proofs::EmissionLemmas::after_words))]
 fn divided(signed: bool, frame: u32, r: u8, d: u8, a: u8, b: u8, items: &mut Items<Item>)
     requires low { 272 ≤ frame }
     requires high { frame ≤ 65808 }
@@ -154,7 +154,7 @@ fn divided(signed: bool, frame: u32, r: u8, d: u8, a: u8, b: u8, items: &mut Ite
             again(frame),
         ]);
     } else {
-        behind_move(RAX, a, &[high_half(signed), division(signed, b)], items);
+        after_move(RAX, a, &[high_half(signed), division(signed, b)], items);
         moved(d, r, items);
     }
 }
@@ -221,10 +221,10 @@ pub(crate) fn with_number(
     ensures { items.new ≡ items.old ++ ones (with_number op alu frame d a value) }
 {
     if is_half(value) {
-        behind_move(d, a, &[imm(op, d, value)], items);
+        after_move(d, a, &[imm(op, d, value)], items);
     } else {
         moved(d, a, items);
-        behind_number(SCRATCH, value, &[row(alu, d, SCRATCH), again(frame)], items);
+        after_number(SCRATCH, value, &[row(alu, d, SCRATCH), again(frame)], items);
     }
 }
 
@@ -277,7 +277,7 @@ fn compared_number(cond: Cond, frame: u32, d: u8, a: u8, value: u64, items: &mut
     } else {
         moved(d, a, items);
         let compare = row(RmRegOp::Cmp, d, SCRATCH);
-        behind_number(
+        after_number(
             SCRATCH,
             value,
             &[compare, told(cond, d), widened(d), again(frame)],
@@ -296,7 +296,7 @@ fn shifted_number(op: ShiftOp, d: u8, a: u8, value: u64, items: &mut Items<Item>
         rm: d,
         count: (value % 64) as u8,
     };
-    behind_move(d, a, &[shift], items);
+    after_move(d, a, &[shift], items);
 }
 
 // Appends the code of a quotient by a number or its remainder, which is in `r`: at most 6 instructions, for which there is room.
@@ -319,14 +319,14 @@ fn divided_number(
     let high = high_half(signed);
     if is_dividend(d) {
         let divide = division(signed, SCRATCH);
-        behind_number(
+        after_number(
             SCRATCH,
             value,
             &[high, divide, mov(d, r), again(frame)],
             items,
         );
     } else {
-        behind_number(d, value, &[high, division(signed, d), mov(d, r)], items);
+        after_number(d, value, &[high, division(signed, d), mov(d, r)], items);
     }
 }
 
@@ -362,14 +362,14 @@ fn product_number(frame: u32, d: u8, a: u8, value: u64, items: &mut Items<Item>)
     ensures { items.new ≡ items.old ++ ones (product_number frame d a value) }
 {
     if d == a {
-        behind_number(
+        after_number(
             SCRATCH,
             value,
             &[ext(RegRmOp::Imul, d, SCRATCH), again(frame)],
             items,
         );
     } else {
-        behind_number(d, value, &[ext(RegRmOp::Imul, d, a)], items);
+        after_number(d, value, &[ext(RegRmOp::Imul, d, a)], items);
     }
 }
 

@@ -81,7 +81,7 @@ pub(crate) fn moved(d: u8, a: u8, items: &mut Items<Item>)
 
 /// Appends instructions after such a move. There is room for them and for the move.
 #[tactic(auto, using(crate::proofs::EmissionLemmas::ones_twice, crate::proofs::EmissionLemmas::moved_words))]
-pub(crate) fn behind_move(d: u8, a: u8, rest: &[Instr], items: &mut Items<Item>)
+pub(crate) fn after_move(d: u8, a: u8, rest: &[Instr], items: &mut Items<Item>)
     requires { words_in items.old + length rest.now + 1 ≤ 64 }
     ensures { items.new ≡ items.old ++ ones (moved d a ++ rest.now) }
 {
@@ -91,7 +91,7 @@ pub(crate) fn behind_move(d: u8, a: u8, rest: &[Instr], items: &mut Items<Item>)
 
 /// Appends instructions after one that loads a number into `t`. There is room for them.
 #[tactic(auto, using(crate::proofs::EmissionLemmas::ones_after, crate::proofs::EmissionLemmas::one_words))]
-pub(crate) fn behind_number(t: u8, value: u64, rest: &[Instr], items: &mut Items<Item>)
+pub(crate) fn after_number(t: u8, value: u64, rest: &[Instr], items: &mut Items<Item>)
     requires { words_in items.old + length rest.now + 1 ≤ 64 }
     ensures { items.new ≡ items.old ++ ones (number_row t value ∷ rest.now) }
 {

@@ -4,7 +4,7 @@ ghost use Rattle.std.specs.Prelude.{◌≡◌, ◌+◌, ◌<◌, ◌≤◌, ◌+
 ghost use Rattle.lg_selx_values.specs.Items.{ones, words_in};
 ghost use Rattle.lg_selx_values.specs.UnaryCode.{unary_code, retval_code};
 
-use crate::moves::{RAX, behind_move, ext, moved, one};
+use crate::moves::{RAX, after_move, ext, moved, one};
 use crate::{Item, mov};
 use lg_op::{UnaryOp, ValueType};
 use lg_sel::Items;
@@ -34,8 +34,8 @@ pub(crate) fn unary_code(op: UnaryOp, d: u8, a: u8, items: &mut Items<Item>)
     ensures { items.new ≡ items.old ++ ones (unary_code op d a) }
 {
     match op {
-        UnaryOp::Neg => behind_move(d, a, &[one(lg_x86::UnaryOp::Neg, d)], items),
-        UnaryOp::Com => behind_move(d, a, &[one(lg_x86::UnaryOp::Not, d)], items),
+        UnaryOp::Neg => after_move(d, a, &[one(lg_x86::UnaryOp::Neg, d)], items),
+        UnaryOp::Com => after_move(d, a, &[one(lg_x86::UnaryOp::Not, d)], items),
         UnaryOp::Mov => items.one(mov(d, a)),
         UnaryOp::ExtrC => items.one(ext(RegRmOp::Ext8s, d, a)),
         UnaryOp::ExtrUc => items.one(ext(RegRmOp::Ext8u, d, a)),
@@ -43,9 +43,9 @@ pub(crate) fn unary_code(op: UnaryOp, d: u8, a: u8, items: &mut Items<Item>)
         UnaryOp::ExtrUs => items.one(ext(RegRmOp::Ext16u, d, a)),
         UnaryOp::ExtrI => items.one(ext(RegRmOp::Ext32s, d, a)),
         UnaryOp::ExtrUi => items.one(ext(RegRmOp::Ext32u, d, a)),
-        UnaryOp::HtonrUs => behind_move(d, a, &[turned(d), lowered(d, 48)], items),
-        UnaryOp::HtonrUi => behind_move(d, a, &[turned(d), lowered(d, 32)], items),
-        UnaryOp::HtonrUl => behind_move(d, a, &[turned(d)], items),
+        UnaryOp::HtonrUs => after_move(d, a, &[turned(d), lowered(d, 48)], items),
+        UnaryOp::HtonrUi => after_move(d, a, &[turned(d), lowered(d, 32)], items),
+        UnaryOp::HtonrUl => after_move(d, a, &[turned(d)], items),
     }
 }
 

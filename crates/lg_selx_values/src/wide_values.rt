@@ -4,7 +4,7 @@ ghost use Rattle.std.specs.Prelude.{◌≡◌, ◌+◌, ◌≤◌, ◌++◌};
 ghost use Rattle.lg_selx_values.specs.Items.{ones, words_in};
 ghost use Rattle.lg_selx_values.specs.WideCode.{rest_code, wide_code, wide_number_code};
 
-use crate::moves::{RAX, RDX, SCRATCH, again, behind_number, one, sign};
+use crate::moves::{RAX, RDX, SCRATCH, after_number, again, one, sign};
 use crate::{Item, mov};
 use lg_op::WideOp;
 use lg_sel::Items;
@@ -67,10 +67,10 @@ fn rest_code(op: WideOp, frame: u32, d: u8, e: u8, value: u64, items: &mut Items
     let divide = one(UnaryOp::Idiv, SCRATCH);
     let divide_unsigned = one(UnaryOp::Div, SCRATCH);
     match op {
-        WideOp::Mul => behind_number(RDX, value, &[multiply, low, high], items),
-        WideOp::MulU => behind_number(RDX, value, &[multiply_unsigned, low, high], items),
-        WideOp::Div => behind_number(SCRATCH, value, &[sign(), divide, low, high, back], items),
-        WideOp::DivU => behind_number(
+        WideOp::Mul => after_number(RDX, value, &[multiply, low, high], items),
+        WideOp::MulU => after_number(RDX, value, &[multiply_unsigned, low, high], items),
+        WideOp::Div => after_number(SCRATCH, value, &[sign(), divide, low, high, back], items),
+        WideOp::DivU => after_number(
             SCRATCH,
             value,
             &[zero(), divide_unsigned, low, high, back],

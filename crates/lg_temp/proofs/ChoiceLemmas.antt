@@ -54,9 +54,9 @@ picked a needs made Any choice e = picked-any a needs made choice e
 picked a needs made (Only r) choice e = subst (IsFor a needs made (Only r)) (same_Some (pick_only a made r) choice e) (picked-only a needs made r)
 
 -- the choices after those that are made
-chosen-behind : (a : Around) (needs left : List Need) (made choices : List Choice) → chosen a needs left made ≡ Some choices → (rest : List Choice) × (choices ≡ made ++ rest) × AreFor a needs made left rest
-chosen-behind a needs [] made choices e = ([], sym (same_Some made choices e) ∙ sym (append-nil made), tt)
-chosen-behind a needs (need ∷ left) made choices e = by (pick a needs made need) refl e (λ choice. chosen-behind a needs left (made ++ choice ∷ []) choices)
+chosen-after : (a : Around) (needs left : List Need) (made choices : List Choice) → chosen a needs left made ≡ Some choices → (rest : List Choice) × (choices ≡ made ++ rest) × AreFor a needs made left rest
+chosen-after a needs [] made choices e = ([], sym (same_Some made choices e) ∙ sym (append-nil made), tt)
+chosen-after a needs (need ∷ left) made choices e = by (pick a needs made need) refl e (λ choice. chosen-after a needs left (made ++ choice ∷ []) choices)
   where
     by : (o : Option Choice) → pick a needs made need ≡ o → option_and_then (λ choice. chosen a needs left (made ++ choice ∷ [])) o ≡ Some choices
         → ((choice : Choice) → chosen a needs left (made ++ choice ∷ []) ≡ Some choices → (rest : List Choice) × (choices ≡ (made ++ choice ∷ []) ++ rest) × AreFor a needs (made ++ choice ∷ []) left rest)
@@ -68,5 +68,5 @@ chosen-behind a needs (need ∷ left) made choices e = by (pick a needs made nee
 
 pub choices-are-for : ChoicesAreForNeeds
 choices-are-for a needs choices e =
-    let k = chosen-behind a needs needs [] choices e in
+    let k = chosen-after a needs needs [] choices e in
     subst (AreFor a needs [] needs) (sym k.1) k.2

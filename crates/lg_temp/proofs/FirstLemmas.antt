@@ -46,9 +46,9 @@ first-picked a needs made Any choice e = first-any a needs made choice e
 first-picked a needs made (Only r) choice e = tt
 
 -- the choices after those that are made
-first-behind : (a : Around) (needs left : List Need) (made choices : List Choice) → chosen a needs left made ≡ Some choices → (rest : List Choice) × (choices ≡ made ++ rest) × AreFirst a needs made left rest
-first-behind a needs [] made choices e = ([], sym (same_Some made choices e) ∙ sym (append-nil made), tt)
-first-behind a needs (need ∷ left) made choices e = by (pick a needs made need) refl e (λ choice. first-behind a needs left (made ++ choice ∷ []) choices)
+first-after : (a : Around) (needs left : List Need) (made choices : List Choice) → chosen a needs left made ≡ Some choices → (rest : List Choice) × (choices ≡ made ++ rest) × AreFirst a needs made left rest
+first-after a needs [] made choices e = ([], sym (same_Some made choices e) ∙ sym (append-nil made), tt)
+first-after a needs (need ∷ left) made choices e = by (pick a needs made need) refl e (λ choice. first-after a needs left (made ++ choice ∷ []) choices)
   where
     by : (o : Option Choice) → pick a needs made need ≡ o → option_and_then (λ choice. chosen a needs left (made ++ choice ∷ [])) o ≡ Some choices
         → ((choice : Choice) → chosen a needs left (made ++ choice ∷ []) ≡ Some choices → (rest : List Choice) × (choices ≡ (made ++ choice ∷ []) ++ rest) × AreFirst a needs (made ++ choice ∷ []) left rest)
@@ -60,5 +60,5 @@ first-behind a needs (need ∷ left) made choices e = by (pick a needs made need
 
 pub choices-are-first : ChoicesAreFirst
 choices-are-first a needs choices e =
-    let k = first-behind a needs needs [] choices e in
+    let k = first-after a needs needs [] choices e in
     subst (AreFirst a needs [] needs) (sym k.1) k.2

@@ -7,7 +7,7 @@ pub mod unfolded;
 
 use crate::call::{Called, call_on_files, call_on_text};
 use crate::outcome::{Outcome, Wanted, outcome_of, same_lines};
-use case::{Case, parse_case, words_behind};
+use case::{Case, parse_case, words_after};
 use lg_base::OutOfMemory;
 use lg_run::status;
 use lg_tally::count;
@@ -23,7 +23,7 @@ fn call_of(
     case: Case<'_>,
     text: &[u8],
 ) -> Result<Called, OutOfMemory> {
-    let words = words_behind(rt.alloc(), options, case)?;
+    let words = words_after(rt.alloc(), options, case)?;
     if case.is_of_files() {
         call_on_files(rt, &words, case.faults.room)
     } else {

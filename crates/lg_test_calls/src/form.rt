@@ -3,14 +3,14 @@
 use std::{fs, io};
 
 // Returns the bytes after the digits that they begin with, or, for `~`, from the next line feed on.
-fn behind_all(form: u8, bytes: &[u8]) -> &[u8] {
+fn after_all(form: u8, bytes: &[u8]) -> &[u8] {
     for (place, byte) in bytes.iter().enumerate() {
-        let is_behind = if form == b'~' {
+        let is_after = if form == b'~' {
             *byte == b'\n'
         } else {
             !byte.is_ascii_digit()
         };
-        if is_behind {
+        if is_after {
             return &bytes[place..];
         }
     }
@@ -18,14 +18,14 @@ fn behind_all(form: u8, bytes: &[u8]) -> &[u8] {
 }
 
 // Returns the bytes after what one byte of a form denotes, or `None` if they begin otherwise.
-fn behind_piece(form: u8, bytes: &[u8]) -> Option<&[u8]> {
+fn after_piece(form: u8, bytes: &[u8]) -> Option<&[u8]> {
     let [first, behind @ ..] = bytes else {
         return None;
     };
     match form {
-        b'~' => Some(behind_all(form, bytes)),
-        b'#' if first.is_ascii_digit() => Some(behind_all(form, bytes)),
-        b'+' if first.is_ascii_digit() && *first != b'0' => Some(behind_all(form, bytes)),
+        b'~' => Some(after_all(form, bytes)),
+        b'#' if first.is_ascii_digit() => Some(after_all(form, bytes)),
+        b'+' if first.is_ascii_digit() && *first != b'0' => Some(after_all(form, bytes)),
         _ if form == *first => Some(behind),
         _ => None,
     }
@@ -35,7 +35,7 @@ fn behind_piece(form: u8, bytes: &[u8]) -> Option<&[u8]> {
 pub fn has_form(form: &[u8], bytes: &[u8]) -> bool {
     let mut rest = bytes;
     for piece in form {
-        match behind_piece(*piece, rest) {
+        match after_piece(*piece, rest) {
             Some(behind) => rest = behind,
             None => return false,
         }

@@ -82,7 +82,7 @@ fn behind<'a>(text: &'a [u8], bytes: &[u8], times: u32) -> Option<&'a [u8]> {
 }
 
 // What is after a piece.
-fn behind_piece<'a>(text: &'a [u8], piece: &Piece) -> Option<&'a [u8]> {
+fn after_piece<'a>(text: &'a [u8], piece: &Piece) -> Option<&'a [u8]> {
     match piece {
         Piece::Of(bytes) => behind(text, bytes, 1),
         Piece::Times(bytes, times) => behind(text, bytes, *times),
@@ -94,7 +94,7 @@ fn behind_piece<'a>(text: &'a [u8], piece: &Piece) -> Option<&'a [u8]> {
 pub(crate) fn are_of(bytes: &[u8], pieces: &[Piece]) -> bool {
     let mut rest = bytes;
     for piece in pieces {
-        match behind_piece(rest, piece) {
+        match after_piece(rest, piece) {
             Some(behind) => rest = behind,
             None => return false,
         }

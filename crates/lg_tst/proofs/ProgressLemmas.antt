@@ -15,7 +15,7 @@ use Rattle.lg_tst.specs.DataParts.{fits}
 use Rattle.lg_tst.specs.Statements.{is_value}
 use Rattle.lg_base.specs.Refusals.{◌>>=◌}
 use Rattle.lg_tst.specs.Streams.{tail_of}
-use Rattle.lg_tst.specs.Units.{State, token_text, behind, wanted, operand_of, noted_by, noted, operands, written_forms, begun, instruction, number_wanted, opened, data_section, stored, is_data_alignment, aligned, item, more_values, first_value, values, or_twice, is_word_kind, named, is_string, is_digits, behind_if, skip_if, note, statement_by, statement_from}
+use Rattle.lg_tst.specs.Units.{State, token_text, behind, wanted, operand_of, noted_by, noted, operands, written_forms, begun, instruction, number_wanted, opened, data_section, stored, is_data_alignment, aligned, item, more_values, first_value, values, or_twice, is_word_kind, named, is_string, is_digits, after_if, skip_if, note, statement_by, statement_from}
 use Rattle.lg_tst.specs.declared.statement.ItemSize.{ItemSize}
 use Rattle.lg_tst.specs.declared.statement.Statement.{Statement}
 use Rattle.lg_tst.specs.declared.statement.Statement.TheVariants as statement
@@ -98,8 +98,8 @@ instruction_leaves op s line = cond_leaves _ (nat_lt (length s.list.nodes) 10485
 stored_leaves : (line n : ℕ) (bytes : List ℕ) (s : State) → Leaves (length s.source.left) (stored line n bytes s)
 stored_leaves line n bytes s = cond_leaves _ (fits s.part n) _ _ (omega arith) tt
 
-stored_behind : (line n : ℕ) (bytes : List ℕ) (s : State) → Leaves (length s.source.left) (stored line n bytes (behind s))
-stored_behind line n bytes s = weaker (length (behind s).source.left) _ _ (tail_less s.source.left) (stored_leaves line n bytes (behind s))
+stored_after : (line n : ℕ) (bytes : List ℕ) (s : State) → Leaves (length s.source.left) (stored line n bytes (behind s))
+stored_after line n bytes s = weaker (length (behind s).source.left) _ _ (tail_less s.source.left) (stored_leaves line n bytes (behind s))
 
 opened_leaves : (s : State) (t : Token) → Leaves (length s.source.left) (opened (behind s) t)
 opened_leaves s t = cond_leaves _ (nat_le t.value 16777216) _ _ (tail_less s.source.left) tt
@@ -108,7 +108,7 @@ data_leaves : (s : State) (line : ℕ) → Leaves (length s.source.left) (data_s
 data_leaves s line = cond_leaves _ (is_some s.part.size) _ _ tt (bind_leaves _ (number_wanted line s) _ (opened_leaves s))
 
 aligned_leaves : (s : State) (t : Token) → Leaves (length s.source.left) (aligned (behind s) t)
-aligned_leaves s t = cond_leaves _ (is_data_alignment t.value) _ _ (stored_behind t.line _ _ s) tt
+aligned_leaves s t = cond_leaves _ (is_data_alignment t.value) _ _ (stored_after t.line _ _ s) tt
 
 item_leaves : (size : ItemSize) (t : Token) (s : State) → Leaves (length s.source.left) (item size t s)
 item_leaves size t s = stored_leaves t.line _ _ s
@@ -138,9 +138,9 @@ twice_leaves (Some list) s line = omega arith
 named_leaves : (s : State) (t : Token) → Leaves (length s.source.left) (named (behind s) t)
 named_leaves s t = cond_leaves _ (is_word_kind t.kind) _ _ (tail_less s.source.left) tt
 
-behind_if_left : (test : TokenKind → Bool) (left : List Token) (s : State) → length (behind_if test left s).source.left ≤ length s.source.left
-behind_if_left test [] s = omega arith
-behind_if_left test (t ∷ more) s = by (test t.kind)
+after_if_left : (test : TokenKind → Bool) (left : List Token) (s : State) → length (after_if test left s).source.left ≤ length s.source.left
+after_if_left test [] s = omega arith
+after_if_left test (t ∷ more) s = by (test t.kind)
   where
     by : (b : Bool) → length (cond b (behind s) s).source.left ≤ length s.source.left
     by true = tail_less s.source.left
@@ -148,8 +148,8 @@ behind_if_left test (t ∷ more) s = by (test t.kind)
 
 note_left : (s : State) → length (note s).source.left ≤ length s.source.left
 note_left s =
-    let first = behind_if_left is_string s.source.left s in
-    let second = behind_if_left is_digits (skip_if is_string s).source.left (skip_if is_string s) in
+    let first = after_if_left is_string s.source.left s in
+    let second = after_if_left is_digits (skip_if is_string s).source.left (skip_if is_string s) in
     omega (arith, first, second)
 
 statement_leaves : (r : Result Statement RefusalKind) (s : State) (t : Token) → Leaves (length s.source.left) (statement_by r s t)
@@ -159,7 +159,7 @@ statement_leaves (Ok statement.Label) s t = twice_leaves _ s t.line
 statement_leaves (Ok statement.Name) s t = bind_leaves _ (wanted t.line s) _ (named_leaves s)
 statement_leaves (Ok statement.Note) s t = note_left s
 statement_leaves (Ok (statement.Values size)) s t = values_leave size s t.line
-statement_leaves (Ok statement.Skip) s t = bind_leaves _ (number_wanted t.line s) _ (λ n. stored_behind n.line n.value _ s)
+statement_leaves (Ok statement.Skip) s t = bind_leaves _ (number_wanted t.line s) _ (λ n. stored_after n.line n.value _ s)
 statement_leaves (Ok statement.AlignData) s t = bind_leaves _ (number_wanted t.line s) _ (aligned_leaves s)
 statement_leaves (Ok (statement.Instruction op)) s t = instruction_leaves op s t.line
 statement_leaves (Err kind) s t = tt

@@ -16,7 +16,7 @@ use Rattle.lg_tst.specs.DataParts.{fits}
 use Rattle.lg_tst.specs.Statements.{is_value}
 use Rattle.lg_base.specs.Refusals.{◌>>=◌}
 use Rattle.lg_tst.specs.Streams.{Stream, tail_of, passed}
-use Rattle.lg_tst.specs.Units.{State, token_text, behind, wanted, operand_of, noted_by, noted, operands, written_forms, begun, instruction, number_wanted, opened, data_section, stored, is_data_alignment, aligned, item, more_values, first_value, values, or_twice, is_word_kind, named, is_string, is_digits, behind_if, skip_if, note, statement_by, statement_from}
+use Rattle.lg_tst.specs.Units.{State, token_text, behind, wanted, operand_of, noted_by, noted, operands, written_forms, begun, instruction, number_wanted, opened, data_section, stored, is_data_alignment, aligned, item, more_values, first_value, values, or_twice, is_word_kind, named, is_string, is_digits, after_if, skip_if, note, statement_by, statement_from}
 use Rattle.lg_tst.specs.declared.statement.ItemSize.{ItemSize}
 use Rattle.lg_tst.specs.declared.statement.Statement.{Statement}
 use Rattle.lg_tst.specs.declared.statement.Statement.TheVariants as statement
@@ -64,8 +64,8 @@ further : (s t : Stream) (r : Result State Refusal) → IsLater s t → Leads t 
 further s t (Ok u) h leads = later_then s t u.source h leads
 further s t (Err e) h leads = tt
 
-behind_leads : (s : State) (r : Result State Refusal) → Leads (behind s).source r → Leads s.source r
-behind_leads s r leads = further s.source (passed s.source) r (tail s.source) leads
+after_leads : (s : State) (r : Result State Refusal) → Leads (behind s).source r → Leads s.source r
+after_leads s r leads = further s.source (passed s.source) r (tail s.source) leads
 
 noted_later : (k : TokenKind) (s : State) (form : Form) (done : List Operand) (text : List ℕ) → IsLater s.source (noted_by k s form done text).source
 noted_later Word s form done text = same s.source
@@ -85,7 +85,7 @@ operands_lead op line [] done s = same s.source
 operands_lead op line (f ∷ fs) done s =
     bind_leads s.source (wanted line s) _ (λ t. bind_leads s.source (operand_of (behind s) op f done t) _ (λ x.
     let new = noted (behind s) f done t in
-    behind_leads s _
+    after_leads s _
     (further (behind s).source new.source _ (noted_later t.kind (behind s) f done (token_text (behind s) t)) (operands_lead op line fs (done ++ x ∷ []) new))))
 
 begun_later : (op : Op) (s : State) → IsLater s.source (begun op s).source
@@ -122,8 +122,8 @@ instruction_leads op s line =
 stored_leads : (line n : ℕ) (bytes : List ℕ) (s : State) → Leads s.source (stored line n bytes s)
 stored_leads line n bytes s = cond_leads s.source (fits s.part n) _ _ (same s.source) tt
 
-stored_behind : (line n : ℕ) (bytes : List ℕ) (s : State) → Leads s.source (stored line n bytes (behind s))
-stored_behind line n bytes s = behind_leads s _ (stored_leads line n bytes (behind s))
+stored_after : (line n : ℕ) (bytes : List ℕ) (s : State) → Leads s.source (stored line n bytes (behind s))
+stored_after line n bytes s = after_leads s _ (stored_leads line n bytes (behind s))
 
 opened_leads : (s : State) (t : Token) → Leads s.source (opened (behind s) t)
 opened_leads s t = cond_leads s.source (nat_le t.value 16777216) _ _ (tail s.source) tt
@@ -132,7 +132,7 @@ data_leads : (s : State) (line : ℕ) → Leads s.source (data_section s line)
 data_leads s line = cond_leads s.source (is_some s.part.size) _ _ tt (bind_leads s.source (number_wanted line s) _ (opened_leads s))
 
 aligned_leads : (s : State) (t : Token) → Leads s.source (aligned (behind s) t)
-aligned_leads s t = cond_leads s.source (is_data_alignment t.value) _ _ (stored_behind t.line _ _ s) tt
+aligned_leads s t = cond_leads s.source (is_data_alignment t.value) _ _ (stored_after t.line _ _ s) tt
 
 item_leads : (size : ItemSize) (t : Token) (s : State) → Leads s.source (item size t s)
 item_leads size t s = stored_leads t.line _ _ s
@@ -142,14 +142,14 @@ unfolding more_values
 more_lead size [] s = same s.source
 more_lead size (t ∷ more) s =
     cond_leads s.source (is_value size t.kind) _ _
-    (step_leads s.source (item size t (behind s)) _ (behind_leads s _ (item_leads size t (behind s))) (λ u h. further s.source u.source _ h (more_lead size more u)))
+    (step_leads s.source (item size t (behind s)) _ (after_leads s _ (item_leads size t (behind s))) (λ u h. further s.source u.source _ h (more_lead size more u)))
     (same s.source)
 
 values_lead : (size : ItemSize) (s : State) (line : ℕ) → Leads s.source (values size s line)
 values_lead size s line =
     bind_leads s.source (wanted line s) _ (λ t.
     step_leads s.source (first_value size (behind s) t) _
-    (cond_leads s.source (is_value size t.kind) _ _ (behind_leads s _ (item_leads size t (behind s))) tt)
+    (cond_leads s.source (is_value size t.kind) _ _ (after_leads s _ (item_leads size t (behind s))) tt)
     (λ u h. further s.source u.source _ h (more_lead size u.source.left u)))
 
 twice_leads : (list : Option LabelledNodes) (s : State) (line : ℕ) → Leads s.source (or_twice list s line)
@@ -159,9 +159,9 @@ twice_leads (Some list) s line = same s.source
 named_leads : (s : State) (t : Token) → Leads s.source (named (behind s) t)
 named_leads s t = cond_leads s.source (is_word_kind t.kind) _ _ (tail s.source) tt
 
-behind_if_later : (test : TokenKind → Bool) (left : List Token) (s : State) → IsLater s.source (behind_if test left s).source
-behind_if_later test [] s = same s.source
-behind_if_later test (t ∷ more) s = by (test t.kind)
+after_if_later : (test : TokenKind → Bool) (left : List Token) (s : State) → IsLater s.source (after_if test left s).source
+after_if_later test [] s = same s.source
+after_if_later test (t ∷ more) s = by (test t.kind)
   where
     by : (b : Bool) → IsLater s.source (cond b (behind s) s).source
     by true = tail s.source
@@ -170,7 +170,7 @@ behind_if_later test (t ∷ more) s = by (test t.kind)
 note_later : (s : State) → IsLater s.source (note s).source
 note_later s =
     let second = skip_if is_string s in
-    later_then s.source second.source (note s).source (behind_if_later is_string s.source.left s) (behind_if_later is_digits second.source.left second)
+    later_then s.source second.source (note s).source (after_if_later is_string s.source.left s) (after_if_later is_digits second.source.left second)
 
 statement_leads : (r : Result Statement RefusalKind) (s : State) (t : Token) → Leads s.source (statement_by r s t)
 statement_leads (Ok statement.Data) s t = data_leads s t.line
@@ -179,7 +179,7 @@ statement_leads (Ok statement.Label) s t = twice_leads _ s t.line
 statement_leads (Ok statement.Name) s t = bind_leads s.source (wanted t.line s) _ (named_leads s)
 statement_leads (Ok statement.Note) s t = note_later s
 statement_leads (Ok (statement.Values size)) s t = values_lead size s t.line
-statement_leads (Ok statement.Skip) s t = bind_leads s.source (number_wanted t.line s) _ (λ n. stored_behind n.line n.value _ s)
+statement_leads (Ok statement.Skip) s t = bind_leads s.source (number_wanted t.line s) _ (λ n. stored_after n.line n.value _ s)
 statement_leads (Ok statement.AlignData) s t = bind_leads s.source (number_wanted t.line s) _ (aligned_leads s)
 statement_leads (Ok (statement.Instruction op)) s t = instruction_leads op s t.line
 statement_leads (Err kind) s t = tt

@@ -14,7 +14,7 @@ use Rattle.lg_lex.specs.Escapes.{character_at, string_at}
 use Rattle.lg_lex.specs.Expressions.{expression_at}
 use Rattle.lg_lex.specs.Numbers.{number_at}
 use Rattle.lg_lex.specs.Fronts.{LiesWithin, word_len, word_at, marked_at, marker_at, dollar_at, mark_at, token_at, front_at}
-use Rattle.lg_lex.specs.Tokens.{Tokens, line_of, is_fresh, behind_piece, token_then, with_front, tokens_from, tokens_at, tokens_of}
+use Rattle.lg_lex.specs.Tokens.{Tokens, line_of, is_fresh, after_piece, token_then, with_front, tokens_from, tokens_at, tokens_of}
 use Rattle.lg_lex.proofs.FrontLemmas.{front_within}
 use Rattle.lg_node.specs.Nodes.{is_word}
 use Rattle.lg_tst.specs.Streams.{IsToken, without_last}
@@ -56,19 +56,19 @@ abbrev IsOther : TokenKind → Type 0
 IsOther kind = (kind ≢ Word) × (kind ≢ LabelMark)
 
 -- the tokens of a piece, where those after it are known
-module _ (text : List ℕ) (place : ℕ) (behind : ℕ → Tokens) (rest : (n : ℕ) → All (IsToken text) (behind (behind_piece place n)).0) where
+module _ (text : List ℕ) (place : ℕ) (behind : ℕ → Tokens) (rest : (n : ℕ) → All (IsToken text) (behind (after_piece place n)).0) where
   abbrev bytes : List ℕ
   bytes = drop place text
 
   abbrev AreTokens : Tokens → Type 0
   AreTokens tokens = All (IsToken text) tokens.0
 
-  found : (kind : TokenKind) (n value : ℕ) → (0 < n) × (n ≤ length bytes) → (kind ≡ Word → is_word (take n bytes) ≡ true) → (kind ≡ LabelMark → is_word (take (n - 1) bytes) ≡ true) → AreTokens (token_then (record { kind = kind; line = line_of text place; start = place; end = behind_piece place n; value = value }) (behind (behind_piece place n)))
+  found : (kind : TokenKind) (n value : ℕ) → (0 < n) × (n ≤ length bytes) → (kind ≡ Word → is_word (take n bytes) ≡ true) → (kind ≡ LabelMark → is_word (take (n - 1) bytes) ≡ true) → AreTokens (token_then (record { kind = kind; line = line_of text place; start = place; end = after_piece place n; value = value }) (behind (after_piece place n)))
   found kind n value inside word label =
       let left = length-drop place text in
       let some = inside.0 in
       let most = inside.1 in
-      let len : behind_piece place n - place ≡ n = omega arith in
+      let len : after_piece place n - place ≡ n = omega arith in
       let long = length-take-le n bytes most in
       let shorter : n - 1 ≤ n = omega arith in
       All-cons (IsToken text) _ _ record {
@@ -78,7 +78,7 @@ module _ (text : List ℕ) (place : ℕ) (behind : ℕ → Tokens) (rest : (n : 
         label = λ e. ap (λ k. is_word (without_last (take k bytes))) len ∙ ap (λ k. is_word (take (k - 1) (take n bytes))) long ∙ ap is_word (take_take (n - 1) n bytes shorter) ∙ label e;
       } (rest n)
 
-  other : (kind : TokenKind) (n value : ℕ) → IsOther kind → (0 < n) × (n ≤ length bytes) → AreTokens (token_then (record { kind = kind; line = line_of text place; start = place; end = behind_piece place n; value = value }) (behind (behind_piece place n)))
+  other : (kind : TokenKind) (n value : ℕ) → IsOther kind → (0 < n) × (n ≤ length bytes) → AreTokens (token_then (record { kind = kind; line = line_of text place; start = place; end = after_piece place n; value = value }) (behind (after_piece place n)))
   other kind n value is inside = found kind n value inside (λ e. absurd (is.0 e)) (λ e. absurd (is.1 e))
 
   by_cond : {A : Type 0} (I : A → Type 0) (T : A → Tokens) (b : Bool) (x y : A) → (b ≡ true → I x → AreTokens (T x)) → (I y → AreTokens (T y)) → I (cond b x y) → AreTokens (T (cond b x y))
@@ -147,7 +147,7 @@ are_from : (k : ℕ) (text : List ℕ) (place : ℕ) → All (IsToken text) (tok
 unfolding tokens_from
 are_from zero text place = All-nil (IsToken text)
 are_from (suc k) text place =
-    front_are text place (tokens_from k text) (λ n. are_from k text (behind_piece place n)) (is_fresh text place) (front_within (is_fresh text place) (drop place text))
+    front_are text place (tokens_from k text) (λ n. are_from k text (after_piece place n)) (is_fresh text place) (front_within (is_fresh text place) (drop place text))
 
 pub tokens_of-are : (text : List ℕ) → All (IsToken text) (tokens_of text).0
 unfolding tokens_at

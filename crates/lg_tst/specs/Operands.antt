@@ -41,7 +41,7 @@ apart_or op done (Ok x) = if stays_apart op done x then Ok x else Err BadOperand
 apart_or op done (Err kind) = Err kind
 
 -- the names after an operand
-abbrev pub names_behind : Form → List Operand → FunctionNames → List ℕ → FunctionNames
-names_behind NewArgument done names word = with_argument names word
-names_behind NewLocal done names word = with_local names word (local_size done)
-names_behind form done names word = names
+abbrev pub names_after : Form → List Operand → FunctionNames → List ℕ → FunctionNames
+names_after NewArgument done names word = with_argument names word
+names_after NewLocal done names word = with_local names word (local_size done)
+names_after form done names word = names

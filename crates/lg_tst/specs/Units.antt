@@ -24,7 +24,7 @@ use Rattle.lg_node.specs.declared.unit.Unit.{Unit as TextUnit}
 use Rattle.lg_tst.specs.DataParts.{DataBytes, no_data, fits, with_bytes, zeros, image_of}
 use Rattle.lg_tst.specs.Names.{FunctionNames, no_names}
 use Rattle.lg_operand.specs.Operands.{misfit}
-use Rattle.lg_tst.specs.Operands.{operand_at, apart_or, names_behind}
+use Rattle.lg_tst.specs.Operands.{operand_at, apart_or, names_after}
 use Rattle.lg_tst.specs.Statements.{statement_of, bytes_in, is_number, is_value}
 use Rattle.lg_base.specs.Refusals.{◌>>=◌, refuse}
 use Rattle.lg_tst.specs.Streams.{Stream, text_of, without_last, next_of, wanted_of, passed}
@@ -67,7 +67,7 @@ operand_of s op form done t = at_line t.line (apart_or op done (operand_at s.lis
 -- what an operand adds: a word mentions its label, and a name is made where the place makes one
 abbrev pub noted_by : TokenKind → State → Form → List Operand → List ℕ → State
 noted_by Word s form done text = record s { list = mentioned s.list text }
-noted_by Name s form done text = record s { names = names_behind form done s.names (drop 1 text) }
+noted_by Name s form done text = record s { names = names_after form done s.names (drop 1 text) }
 noted_by kind s form done text = s
 
 abbrev pub noted : State → Form → List Operand → Token → State
@@ -219,12 +219,12 @@ is_digits Number = true
 is_digits kind = false
 
 -- after the next token, where that is of such a kind
-abbrev pub behind_if : (TokenKind → Bool) → List Token → State → State
-behind_if test [] s = s
-behind_if test (t ∷ more) s = if test t.kind then behind s else s
+abbrev pub after_if : (TokenKind → Bool) → List Token → State → State
+after_if test [] s = s
+after_if test (t ∷ more) s = if test t.kind then behind s else s
 
 abbrev pub skip_if : (TokenKind → Bool) → State → State
-skip_if test s = behind_if test s.source.left s
+skip_if test s = after_if test s.source.left s
 
 -- `note`, and an optional string and then an optional number
 abbrev pub note : State → State

@@ -18,7 +18,7 @@ use Rattle.lg_x86.proofs.NumberLemmas.{AreBytes, drop_bytes}
 use Rattle.lg_x86.proofs.FrontLemmas.{IsOpcode}
 use Rattle.lg_x86.proofs.AcceptLemmas.{none_accepted, accepts, with_found, found, pair_is, never, or_first, unsized, IsRex, Same}
 use Rattle.lg_x86.proofs.PrefixLemmas.{end_of, wide_one_is}
-use Rattle.lg_x86.proofs.TailLemmas.{tail_of, registers_tail, one_tail, and_false, long_tail, short_tail, byte_tail, short_is_short, behind_first, behind_one, plain_opcode}
+use Rattle.lg_x86.proofs.TailLemmas.{tail_of, registers_tail, one_tail, and_false, long_tail, short_tail, byte_tail, short_is_short, after_first, after_one, plain_opcode}
 
 pub unary_same : (s : Bool) (r : ℕ) → IsRex r → (o : ℕ) (t : List ℕ) (len : ℕ) → len ≡ front_length s r false → Same s r false o t ((not s && is_wide_one r) && has_registers t) (len + 1) (unary_of r o t)
 unfolding unary_of unary_by_digit
@@ -72,7 +72,7 @@ shift_same s r rex_is t len at = by (nat_lt (slice_index t 1) 64)
           u = modrm 3 (shift_row op).number rm ∷ slice_index t 1 ∷ [];
           spelled = refl;
           front_is = unsized s _ ∙ ap (λ b. not s && b) (wide_one_is r rm rex_is (omega arith));
-          tail_is = registers_tail t (slice_index t 1 ∷ []) (shift_row op).number rm (omega (arith, row)) (omega arith) ∙ ap (λ b. has_registers t && b) count_tail ∙ behind_first t 1;
+          tail_is = registers_tail t (slice_index t 1 ∷ []) (shift_row op).number rm (omega (arith, row)) (omega arith) ∙ ap (λ b. has_registers t && b) count_tail ∙ after_first t 1;
           long = λ _. refl;
         }))
 
@@ -97,7 +97,7 @@ movs_same s r rex_is t h len at =
       u = modrm 3 0 rm ∷ long_bytes z;
       spelled = refl;
       front_is = unsized s _ ∙ ap (λ b. not s && b) (wide_one_is r rm rex_is (omega arith));
-      tail_is = one_tail t (long_bytes z) rm (omega arith) ∙ ap (λ b. has_one t && b) (long_tail (drop 1 t) (drop_bytes t 1 h)) ∙ behind_one t 4;
+      tail_is = one_tail t (long_bytes z) rm (omega arith) ∙ ap (λ b. has_one t && b) (long_tail (drop 1 t) (drop_bytes t 1 h)) ∙ after_one t 4;
       long = λ _. refl;
     })
 
@@ -123,7 +123,7 @@ imm_short_same s r rex_is t h len at =
       u = modrm 3 digit rm ∷ short_bytes z;
       spelled = ap (λ b. rex Wide (extension 0 0 rm) ++ ((if b then 0x83 else 0x81) ∷ modrm 3 digit rm ∷ []) ++ (if b then short_bytes z else long_bytes z)) short ∙ append_assoc (rex Wide (extension 0 0 rm)) (0x83 ∷ modrm 3 digit rm ∷ []) (short_bytes z);
       front_is = unsized s _ ∙ ap (λ b. not s && b) (wide_one_is r rm rex_is (omega arith));
-      tail_is = registers_tail t (short_bytes z) digit rm (omega (arith, row)) (omega arith) ∙ ap (λ b. has_registers t && b) (short_tail (drop 1 t) (drop_bytes t 1 h)) ∙ behind_first t 1;
+      tail_is = registers_tail t (short_bytes z) digit rm (omega (arith, row)) (omega arith) ∙ ap (λ b. has_registers t && b) (short_tail (drop 1 t) (drop_bytes t 1 h)) ∙ after_first t 1;
       long = λ _. refl;
     }))
 
@@ -169,7 +169,7 @@ imm_long_same s r rex_is t h len at =
           u = modrm 3 digit rm ∷ long_bytes z;
           spelled = ap (λ b. rex Wide (extension 0 0 rm) ++ ((if b then 0x83 else 0x81) ∷ modrm 3 digit rm ∷ []) ++ (if b then short_bytes z else long_bytes z)) f ∙ append_assoc (rex Wide (extension 0 0 rm)) (0x81 ∷ modrm 3 digit rm ∷ []) (long_bytes z);
           front_is = unsized s _ ∙ ap (λ b. not s && b) (wide_one_is r rm rex_is (omega arith));
-          tail_is = registers_tail t (long_bytes z) digit rm (omega (arith, row)) (omega arith) ∙ ap (λ b. has_registers t && b) (long_tail (drop 1 t) (drop_bytes t 1 h)) ∙ behind_first t 4 ∙ ap (λ b. has_registers t && b) (sym (end_of (has_bytes 5 t)));
+          tail_is = registers_tail t (long_bytes z) digit rm (omega (arith, row)) (omega arith) ∙ ap (λ b. has_registers t && b) (long_tail (drop 1 t) (drop_bytes t 1 h)) ∙ after_first t 4 ∙ ap (λ b. has_registers t && b) (sym (end_of (has_bytes 5 t)));
           long = λ _. refl;
         })
 

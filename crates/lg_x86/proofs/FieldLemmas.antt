@@ -82,9 +82,9 @@ memory_has_no_registers reg base disp more =
     ap (λ mode. mode == 3) (modrm_mode (memory_mode disp) reg base) ∙ memory_mode_no_registers (is_short disp)
 
 -- what is after ModRM and SIB
-behind_sib : (b : Bool) (m s : ℕ) (number more : List ℕ) → drop (if b then 2 else 1) (m ∷ (((if b then s ∷ [] else []) ++ number) ++ more)) ≡ number ++ more
-behind_sib true m s number more = refl
-behind_sib false m s number more = refl
+after_sib : (b : Bool) (m s : ℕ) (number more : List ℕ) → drop (if b then 2 else 1) (m ∷ (((if b then s ∷ [] else []) ++ number) ++ more)) ≡ number ++ more
+after_sib true m s number more = refl
+after_sib false m s number more = refl
 
 pub disp_read : (reg base : ℕ) (disp : ℤ) (more : List ℕ) → IsNumber32 disp → disp_in (memory reg base disp ++ more) ≡ disp
 disp_read reg base disp more ok =
@@ -93,7 +93,7 @@ disp_read reg base disp more ok =
     ap (λ mode. number_in (mode == 1) (drop (disp_place tail) tail)) (modrm_mode (memory_mode disp) reg base)
     ∙ ap (λ short. number_in short (drop (disp_place tail) tail)) (short_mode (is_short disp))
     ∙ ap (λ low. number_in (is_short disp) (drop (if low == 4 then 2 else 1) tail)) (modrm_rm (memory_mode disp) reg base)
-    ∙ ap (number_in (is_short disp)) (behind_sib (base % 8 == 4) m (sib 4 base) (number_bytes disp) more)
+    ∙ ap (number_in (is_short disp)) (after_sib (base % 8 == 4) m (sib 4 base) (number_bytes disp) more)
     ∙ number_read disp more ok
 
 -- SIB of a base names no index, so that this is no sum of registers

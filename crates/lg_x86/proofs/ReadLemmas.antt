@@ -73,8 +73,8 @@ no_escaped s r len bytes =
 abbrev prefix_length : Bool → ℕ → ℕ
 prefix_length s r = length (size_prefix s ++ rex_byte r)
 
-front_behind : (s : Bool) (r : ℕ) (e : Bool) → front_length s r e ≡ prefix_length s r + length (opcode_bytes e 0)
-front_behind s r e =
+front_after : (s : Bool) (r : ℕ) (e : Bool) → front_length s r e ≡ prefix_length s r + length (opcode_bytes e 0)
+front_after s r e =
     let a = length-append (size_prefix s) (rex_byte r ++ (opcode_bytes e 0 ++ [])) in
     let b = length-append (rex_byte r) (opcode_bytes e 0 ++ []) in
     let c = length-append (opcode_bytes e 0) [] in
@@ -86,12 +86,12 @@ unfolding read_code code_of
 code_same s r rex_is [] h len at = no_short s r (len + 1) (size_prefix s ++ (rex_byte r ++ []))
 code_same s r rex_is (a ∷ t) h len at =
     choice (a == 0x0f) (size_prefix s ++ (rex_byte r ++ (a ∷ t))) _ _ _ _ (λ e. escaped t h e)
-    (λ _. let f = front_behind s r false in short_same s r rex_is a t (drop_bytes (a ∷ t) 1 h) (len + 1) (omega (arith, at, f)))
+    (λ _. let f = front_after s r false in short_same s r rex_is a t (drop_bytes (a ∷ t) 1 h) (len + 1) (omega (arith, at, f)))
   where
     escaped : (t : List ℕ) → AreBytes (a ∷ t) → (a == 0x0f) ≡ true → read_escaped s r (len + 2) (mark_in r) (has_registers (drop 2 (a ∷ t))) (slice_index (a ∷ t) 1) (drop 2 (a ∷ t)) ≡ checked (size_prefix s ++ (rex_byte r ++ (a ∷ t))) (escaped_at r (mark_in r) (has_registers (drop 2 (a ∷ t))) (slice_index (a ∷ t) 1) (drop 2 (a ∷ t)))
     escaped [] h e = no_escaped s r (len + 2) (size_prefix s ++ (rex_byte r ++ (a ∷ [])))
     escaped (o ∷ t) h e =
-        let f = front_behind s r true in
+        let f = front_after s r true in
         escaped_same s r rex_is o t (drop_bytes (a ∷ o ∷ t) 2 h) (len + 2) (omega (arith, at, f))
         ∙ ap (λ n. checked (size_prefix s ++ (rex_byte r ++ (n ∷ o ∷ t))) (escaped_at r (mark_in r) (has_registers t) o t)) (sym (eqb-true a 0x0f e))
 

@@ -124,13 +124,13 @@ short_is_short n = by (nat_lt n 128) refl
     by false e = grind (arith, nat_tests)
 
 -- bytes after the first
-pub behind_first : (t : List ℕ) (k : ℕ) → (has_registers t && has_bytes k (drop 1 t)) ≡ (has_registers t && has_bytes (suc k) t)
-behind_first [] k = refl
-behind_first (m ∷ t) k = ap (λ b. (m / 64 == 3) && b) (decided (nat_le k (length t)) (nat_le (suc k) (suc (length t))) (λ e. grind (arith, nat_tests)) (λ e. grind (arith, nat_tests)))
+pub after_first : (t : List ℕ) (k : ℕ) → (has_registers t && has_bytes k (drop 1 t)) ≡ (has_registers t && has_bytes (suc k) t)
+after_first [] k = refl
+after_first (m ∷ t) k = ap (λ b. (m / 64 == 3) && b) (decided (nat_le k (length t)) (nat_le (suc k) (suc (length t))) (λ e. grind (arith, nat_tests)) (λ e. grind (arith, nat_tests)))
 
-pub behind_one : (t : List ℕ) (k : ℕ) → (has_one t && has_bytes k (drop 1 t)) ≡ (has_one t && has_bytes (suc k) t)
-behind_one [] k = refl
-behind_one (m ∷ t) k = ap (λ b. (m / 8 == 24) && b) (decided (nat_le k (length t)) (nat_le (suc k) (suc (length t))) (λ e. grind (arith, nat_tests)) (λ e. grind (arith, nat_tests)))
+pub after_one : (t : List ℕ) (k : ℕ) → (has_one t && has_bytes k (drop 1 t)) ≡ (has_one t && has_bytes (suc k) t)
+after_one [] k = refl
+after_one (m ∷ t) k = ap (λ b. (m / 8 == 24) && b) (decided (nat_le k (length t)) (nat_le (suc k) (suc (length t))) (λ e. grind (arith, nat_tests)) (λ e. grind (arith, nat_tests)))
 
 -- ---- the operand in memory
 pub displaced : (m reg base : ℕ) (b : List ℕ) → AreBytes b → reg % 8 ≡ m / 8 % 8 → base % 8 ≡ m % 8 → ((modrm (memory_mode (number_in (m / 64 == 1) b)) reg base == m) && starts_with nat_eq b (number_bytes (number_in (m / 64 == 1) b))) ≡ is_displaced (m / 64) b
@@ -157,10 +157,10 @@ swapped true false c = refl
 swapped false true c = refl
 swapped false false c = refl
 
-pub memory_behind : (m : ℕ) (t : List ℕ) (reg base : ℕ) → AreBytes (m ∷ t) → reg % 8 ≡ m / 8 % 8 → base % 8 ≡ m % 8 → (s : Bool) → (m % 8 == 4) ≡ s → (z : ℤ) → z ≡ number_in (m / 64 == 1) (drop (if s then 2 else 1) (m ∷ t)) → ((modrm (memory_mode z) reg base == m) && starts_with nat_eq t ((if s then sib 4 base ∷ [] else []) ++ number_bytes z)) ≡ ((if s then slice_index (m ∷ t) 1 == 0x24 else true) && is_displaced (m / 64) (drop (if s then 2 else 1) (m ∷ t)))
-memory_behind m t reg base h x y false e z is = rw is (displaced m reg base t (drop_bytes (m ∷ t) 1 h) x y)
-memory_behind m [] reg base h x y true e z is = and_false (modrm (memory_mode z) reg base == m)
-memory_behind m (b ∷ t) reg base h x y true e z is =
+pub memory_after : (m : ℕ) (t : List ℕ) (reg base : ℕ) → AreBytes (m ∷ t) → reg % 8 ≡ m / 8 % 8 → base % 8 ≡ m % 8 → (s : Bool) → (m % 8 == 4) ≡ s → (z : ℤ) → z ≡ number_in (m / 64 == 1) (drop (if s then 2 else 1) (m ∷ t)) → ((modrm (memory_mode z) reg base == m) && starts_with nat_eq t ((if s then sib 4 base ∷ [] else []) ++ number_bytes z)) ≡ ((if s then slice_index (m ∷ t) 1 == 0x24 else true) && is_displaced (m / 64) (drop (if s then 2 else 1) (m ∷ t)))
+memory_after m t reg base h x y false e z is = rw is (displaced m reg base t (drop_bytes (m ∷ t) 1 h) x y)
+memory_after m [] reg base h x y true e z is = and_false (modrm (memory_mode z) reg base == m)
+memory_after m (b ∷ t) reg base h x y true e z is =
     let four = eqb-true (m % 8) 4 e in
     let none : sib 4 base ≡ 0x24 = omega (arith, four, y) in
     swapped (modrm (memory_mode z) reg base == m) (sib 4 base == b) (starts_with nat_eq t (number_bytes z))
@@ -171,7 +171,7 @@ pub memory_tail : (t : List ℕ) (reg base : ℕ) → AreBytes t → reg % 8 ≡
 memory_tail [] reg base h x y = refl
 memory_tail (m ∷ t) reg base h x y =
     ap (λ low. (modrm (memory_mode (disp_in (m ∷ t))) reg base == m) && starts_with nat_eq t ((if low == 4 then sib 4 base ∷ [] else []) ++ number_bytes (disp_in (m ∷ t)))) y
-    ∙ memory_behind m t reg base h x y (m % 8 == 4) refl (disp_in (m ∷ t)) refl
+    ∙ memory_after m t reg base h x y (m % 8 == 4) refl (disp_in (m ∷ t)) refl
 
 pub displaced_long : (mode : ℕ) (b : List ℕ) → is_displaced mode b ≡ true → length (number_bytes (number_in (mode == 1) b)) ≡ (if mode == 1 then 1 else 4)
 displaced_long mode b = by (mode == 1)

@@ -21,7 +21,7 @@ use Rattle.lg_carry.proofs.WordLemmas.{word-kept}
 use Rattle.lg_carry.specs.Nodes.Stretches.{StandsAt, behind, PassesIn}
 use Rattle.lg_carry.proofs.OfNodes.StretchLemmas.{part-passes, passages-join, spelled-append}
 use Rattle.lg_carry.specs.Memory.Crossings.{Crosses, CrossesCode, LeadsTo, Skips}
-use Rattle.lg_carry.proofs.OfMemory.BehindLemmas.{more-slots}
+use Rattle.lg_carry.proofs.OfMemory.AfterLemmas.{more-slots}
 
 -- what is passed within a part is passed within the whole
 pub passes-within : {Q : Type 0} (P : Processor Q) (low high low' high' steps : ℕ) (q u : Q) → low' ≤ low → high ≤ high' → PassesIn P false low high steps q u → PassesIn P false low' high' steps q u
@@ -93,8 +93,8 @@ all-back : {I : Type 0} (fits : I → Type 0) (xs ys : List I) → All fits (xs 
 all-back fits [] ys h = h
 all-back fits (x ∷ xs) ys h = all-back fits xs ys (λ k d lt. h (suc k) d (omega (arith, lt)))
 
-places-behind : {Q I : Type 0} (R : Rows Q I) (fits : I → Type 0) → AreRows R fits → (from : ℕ) (xs ys : List I) → StandsAt R false fits from (xs ++ ys) → R.is_place (behind R from xs) ≡ true
-places-behind R fits ok from xs ys k = places-from R fits ok xs from (all-front fits xs ys k.fit) k.place
+places-after : {Q I : Type 0} (R : Rows Q I) (fits : I → Type 0) → AreRows R fits → (from : ℕ) (xs ys : List I) → StandsAt R false fits from (xs ++ ys) → R.is_place (behind R from xs) ≡ true
+places-after R fits ok from xs ys k = places-from R fits ok xs from (all-front fits xs ys k.fit) k.place
 
 part-stands : {Q I : Type 0} (R : Rows Q I) (fits : I → Type 0) → AreRows R fits → (from : ℕ) (front part back : List I) → StandsAt R false fits from (front ++ (part ++ back)) → StandsAt R false fits (behind R from front) part
 part-stands R fits ok from front part back k =
@@ -105,7 +105,7 @@ part-stands R fits ok from front part back k =
     let here : drop (from - code_base) R.code ≡ front-bytes ++ ((part-bytes ++ back-bytes) ++ k.more) = k.stands ∙ ap (λ z. z ++ k.more) split ∙ append_assoc front-bytes (part-bytes ++ back-bytes) k.more in
     record {
       low = omega (arith, k.low);
-      place = places-behind R fits ok from front (part ++ back) k;
+      place = places-after R fits ok from front (part ++ back) k;
       more = back-bytes ++ k.more;
       stands = behind-front R (from - code_base) (behind R from front - code_base) front-bytes ((part-bytes ++ back-bytes) ++ k.more) here (omega (arith, k.low)) ∙ append_assoc part-bytes back-bytes k.more;
       fit = all-front fits part back (all-back fits front (part ++ back) k.fit);
@@ -161,7 +161,7 @@ module _ {Q I : Type 0} (R : Rows Q I) (fits : I → Type 0) (ok : AreRows R fit
     pass1 = piece-passes from code [] front (b ∷ (slow ++ (j ∷ fast))) q refl k (at ∙ omega arith) front-block a.through
 
     place1 : R.is_place (R.processor.seen q1).pc ≡ true
-    place1 = subst (λ z. R.is_place z ≡ true) (sym here1) (places-behind R fits ok from front (b ∷ (slow ++ (j ∷ fast))) k)
+    place1 = subst (λ z. R.is_place z ≡ true) (sym here1) (places-after R fits ok from front (b ∷ (slow ++ (j ∷ fast))) k)
 
     abbrev over : ℕ
     over = if aligned then size (slow ++ (j ∷ [])) else 0
@@ -244,7 +244,7 @@ module _ {Q I : Type 0} (R : Rows Q I) (fits : I → Type 0) (ok : AreRows R fit
         let here3 : (R.processor.seen q3).pc ≡ behind R from (before ++ slow) = (let s = size-of R.spelling before slow in f.behind ∙ omega (arith, here2, s)) in
         let last : code ≡ (before ++ slow) ++ ((j ∷ []) ++ fast) = split ∙ sym (append_assoc before slow (j ∷ fast)) in
         let s = size-of R.spelling before slow in
-        let u = jumps (R.processor.seen q3).registers q3 f.runs (λ r. refl) (omega (arith, here3, k.low)) (subst (λ z. R.is_place z ≡ true) (sym here3) (places-behind R fits ok from (before ++ slow) (j ∷ fast) (subst (StandsAt R false fits from) last k))) (omega (arith, here3, high, sizes, s, t, v)) in
+        let u = jumps (R.processor.seen q3).registers q3 f.runs (λ r. refl) (omega (arith, here3, k.low)) (subst (λ z. R.is_place z ≡ true) (sym here3) (places-after R fits ok from (before ++ slow) (j ∷ fast) (subst (StandsAt R false fits from) last k))) (omega (arith, here3, high, sizes, s, t, v)) in
         let q4 = R.does j q3 in
         record {
           end = q4;
@@ -367,7 +367,7 @@ module _ {Q I : Type 0} (R : Rows Q I) (fits : I → Type 0) (rows : AreRows R f
           (loaded-stored (R.processor.seen q).bytes (spill_word fp k) 8 value (let v = words r in let h = looks.has_registers r in omega (arith, v, h)))
 
       x : IsRestored R r k value q2 q3
-      x = ok.restores q2 r k fp value can few f e.runs record { low = omega (arith, here2, stands.low); high = omega (arith, here2, high, first, after, fronts) } (let z = e.registers (stack_register R.processor.target) keeps.stack_unspoiled in let y = keeps.room_behind in omega (arith, z, y)) (e.registers (frame_register R.processor.target) keeps.unspoiled ∙ keeps.behind) held
+      x = ok.restores q2 r k fp value can few f e.runs record { low = omega (arith, here2, stands.low); high = omega (arith, here2, high, first, after, fronts) } (let z = e.registers (stack_register R.processor.target) keeps.stack_unspoiled in let y = keeps.room_after in omega (arith, z, y)) (e.registers (frame_register R.processor.target) keeps.unspoiled ∙ keeps.behind) held
 
       back : (y : ℕ) → (T y && not (y == r)) ≡ false → (R.processor.seen q3).registers y ≡ w.end_registers y
       back y keep = ⊎_elim (λ (z : y ≡ r). x.registers y ∙ (let h : with_register (R.processor.seen q2).registers r value y ≡ value = grind (arith, z) in h) ∙ looks.has_registers r ∙ sym same ∙ ap w.end_registers (sym z)) (λ (ne : y ≢ r). x.registers y ∙ (let h : with_register (R.processor.seen q2).registers r value y ≡ (R.processor.seen q2).registers y = grind (arith, ne) in h) ∙ e.registers y (other T r y keep ne)) (cases_eq y r)
@@ -387,5 +387,5 @@ module _ {Q I : Type 0} (R : Rows Q I) (fits : I → Type 0) (rows : AreRows R f
       let z : n + (spilled choices + 1) ≡ n + 1 + spilled choices = omega arith in
       let b : n < 5 = omega (arith, below choices (n + 1) order.2) in
       let inner = saves-cross choices w body fp (n + 1) T f words order.2 keep.1 frame (subst (λ m. CrossesCode R fits w body fp m T) z crosses) in
-      let outer = around w (wrapped R choices body) x n fp (lost choices T) f words b order.1 keep.0 record { before = frame.before; behind = frame.behind; unspoiled = lost-none R ok choices T (frame_register R.processor.target) frame.unspoiled; room_before = frame.room_before; room_behind = frame.room_behind; stack_unspoiled = lost-none R ok choices T (stack_register R.processor.target) frame.stack_unspoiled } inner in
+      let outer = around w (wrapped R choices body) x n fp (lost choices T) f words b order.1 keep.0 record { before = frame.before; behind = frame.behind; unspoiled = lost-none R ok choices T (frame_register R.processor.target) frame.unspoiled; room_before = frame.room_before; room_after = frame.room_after; stack_unspoiled = lost-none R ok choices T (stack_register R.processor.target) frame.stack_unspoiled } inner in
       subst (λ m. CrossesCode R fits w (R.save x m ∷ (wrapped R choices body ++ R.restore x m ∷ [])) fp n (lost (Spill x k ∷ choices) T)) (sym order.0) outer

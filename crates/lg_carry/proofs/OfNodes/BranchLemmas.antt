@@ -33,7 +33,7 @@ use Rattle.lg_carry.specs.Nodes.Isas.{IsIsa}
 use Rattle.lg_carry.specs.Nodes.Leaps.{HasPlaces, IsThere, second_word, BranchesLead, last_of, branch_node, IsSecond, BranchesCarry}
 use Rattle.lg_carry.specs.TextNodes.{IsInText, IsFrameOf}
 use Rattle.lg_carry.specs.Nodes.Stretches.{behind, Way}
-use Rattle.lg_carry.proofs.OfNodes.LeapLemmas.{bound-at, Lands, jump-lands, in-some, behind-prolog, next-inside, in-nodes, node-stands, to-label, there-behind, way-leads}
+use Rattle.lg_carry.proofs.OfNodes.LeapLemmas.{bound-at, Lands, jump-lands, in-some, after-prolog, next-inside, in-nodes, node-stands, to-label, there-after, way-leads}
 use Rattle.lg_carry.proofs.OfNodes.LiveLemmas.{unwritten, still-live}
 use Rattle.lg_carry.proofs.OfNodes.OperandLemmas.{named-here, named-later, read-is-live}
 use Rattle.lg_carry.proofs.OfNodes.RegisterLemmas.{given}
@@ -69,10 +69,10 @@ module _ {Q I : Type 0} (R : Rows Q I) (scratch : ℕ → Bool) (fits : I → Ty
       by last_operand.Immediate e = unwritten n (rw e refl) r
 
   inside : is_inside c i ≡ true
-  inside = let p = in-some c i n t refl in behind-prolog c i n t p.0 p.1 refl
+  inside = let p = in-some c i n t refl in after-prolog c i n t p.0 p.1 refl
 
   lands : Lands c i l
-  lands = jump-lands c i n t l (λ p e. behind-prolog c i n t p e refl) (t.well.jumps i n l (operand.Reg a ∷ third ∷ []) t.here refl refl)
+  lands = jump-lands c i n t l (λ p e. after-prolog c i n t p e refl) (t.well.jumps i n l (operand.Reg a ∷ third ∷ []) t.here refl refl)
 
   module _ (live : Frame → ℕ → Bool) (s : State) (out : List ℕ) (q : Q) (at : s.at ≡ i) (st : Stands R.processor c live s out q (live_before n S)) where
     abbrev W : ℕ → ℕ
@@ -99,7 +99,7 @@ module _ {Q I : Type 0} (R : Rows Q I) (scratch : ℕ → Bool) (fits : I → Ty
     taken x y ea eb small goes' = by (holds o x y) refl
       where
         next : IsThere R.is_place high
-        next = there-behind R fits isa.rows c w i is (in-nodes c i n t) k
+        next = there-after R fits isa.rows c w i is (in-nodes c i n t) k
 
         way : (holds o x y ≡ true → IsThere R.is_place (slice_index c.addresses l.0)) → Way R.processor scratch (c.place i) high W (if holds o x y then slice_index c.addresses l.0 else high) q
         way at-label = lead frame o a third x y (c.place i) (slice_index c.addresses l.0) q (frame-held target c i live s (R.processor.seen q) (live_before n S) at before st.state frame is-frame) (node-stands R false fits c i is (ap (moves_at target) t.here) k) at-label next st.runs here ea eb small

@@ -51,7 +51,7 @@ use Rattle.lg_carry.specs.TextNodes.{IsInText, IsFrameOf}
 use Rattle.lg_carry.specs.Nodes.Stretches.{behind, Arrival}
 use Rattle.lg_carry.proofs.OfNodes.ArgumentLemmas.{arguments-begin}
 use Rattle.lg_carry.proofs.OfNodes.CallLemmas.{stays-frame, above-off, before, tower, frame, held-frame}
-use Rattle.lg_carry.proofs.OfNodes.LeapLemmas.{in-some, behind-prolog, next-inside, node-stands, node-passes}
+use Rattle.lg_carry.proofs.OfNodes.LeapLemmas.{in-some, after-prolog, next-inside, node-stands, node-passes}
 use Rattle.lg_carry.proofs.OfNodes.LiveLemmas.{still-live}
 use Rattle.lg_carry.proofs.OfNodes.OpenLemmas.{open-there}
 use Rattle.lg_carry.proofs.OfNodes.StraightLemmas.{text-keeps}
@@ -336,7 +336,7 @@ module _ {Q I : Type 0} (R : Rows Q I) (ready : HostName → (ℕ → ℕ) → B
   host-calls-carry c i name line S w t size is-frame k live s returns out q at st =
       let n = host_call_node name line in
       let p = in-some c i n t refl in
-      let inside = behind-prolog c i n t p.0 p.1 refl in
+      let inside = after-prolog c i n t p.0 p.1 refl in
       host-called R ready hosts c i n S w t inside (next-inside c i n t p.0 p.1 refl) refl saved live s out q at st
       [] (omega arith) record { is = λ j x lt z. cc } record { is = λ j x lt z. cc } name (arrives c i n S name k (ap (moves_at R.processor.target) t.here) inside live s out q at st size is-frame)
       (ap (λ x. step_at (text c.nodes c.shape c.addresses) x s) (ap (slice_get c.nodes.nodes) at ∙ t.here))
@@ -351,7 +351,7 @@ module _ {Q I : Type 0} (R : Rows Q I) (ready : HostName → (ℕ → ℕ) → B
   host-finishes-carry c i name line S w t size is-frame k live s returns out q at st =
       let n = host_finish_node name line in
       let p = in-some c i n t refl in
-      let inside = behind-prolog c i n t p.0 p.1 refl in
+      let inside = after-prolog c i n t p.0 p.1 refl in
       host-called R ready hosts c i n S w t inside (next-inside c i n t p.0 p.1 refl) refl saved live s out q at st
       s.pushed (let f = (shaped c.nodes t.well).few s.at (omega (arith, st.state.fits.inside)) in omega (arith, f, st.state.fits.pushed)) st.state.pushed st.state.outgoing name (arrives c i n S name k (ap (moves_at R.processor.target) t.here) inside live s out q at st size is-frame)
       (ap (λ x. step_at (text c.nodes c.shape c.addresses) x s) (ap (slice_get c.nodes.nodes) at ∙ t.here))

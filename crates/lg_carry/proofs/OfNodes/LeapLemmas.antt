@@ -86,11 +86,11 @@ module _ (c : Code) (i : ℕ) (n : Node) (t : IsInText c i n) where
       differ e = cc
 
   -- and after its `prolog`
-  pub behind-prolog : (p : ℕ) → home c.nodes.nodes i ≡ Some p → is_prolog n.op ≡ false → is_inside c i ≡ true
-  behind-prolog p h other = inner-is (home c.nodes.nodes i) i p h (λ e. no-entry other (h ∙ ap Some e))
+  pub after-prolog : (p : ℕ) → home c.nodes.nodes i ≡ Some p → is_prolog n.op ≡ false → is_inside c i ≡ true
+  after-prolog p h other = inner-is (home c.nodes.nodes i) i p h (λ e. no-entry other (h ∙ ap Some e))
 
   pub stands-inside : may_stand_outside n.op (is_begun c.nodes.nodes i) ≡ false → is_prolog n.op ≡ false → is_inside c i ≡ true
-  stands-inside out other = let p = in-some out in behind-prolog p.0 p.1 other
+  stands-inside out other = let p = in-some out in after-prolog p.0 p.1 other
 
   -- the next node is after the same `prolog`
   pub next-inside : (p : ℕ) → home c.nodes.nodes i ≡ Some p → is_epilog n.op ≡ false → is_inside c (i + 1) ≡ true
@@ -121,18 +121,18 @@ to-label R c w l k e le =
     subst (IsThere R.is_place) (sym (w.nodes.bound l.0 k bound)) (there R c w k le (inl (l.0, bound)))
 
 -- an instruction may be after others
-place-behind : {Q I : Type 0} (R : Rows Q I) (fits : I → Type 0) → AreRows R fits → (is : List I) (pc : ℕ) → All fits is → R.is_place pc ≡ true → R.is_place (pc + length (spellings R.spelling is)) ≡ true
-place-behind R fits rows [] pc fit e = let z : pc ≡ pc + 0 = omega arith in subst (λ x. R.is_place x ≡ true) z e
-place-behind R fits rows (x ∷ is) pc fit e =
+place-after : {Q I : Type 0} (R : Rows Q I) (fits : I → Type 0) → AreRows R fits → (is : List I) (pc : ℕ) → All fits is → R.is_place pc ≡ true → R.is_place (pc + length (spellings R.spelling is)) ≡ true
+place-after R fits rows [] pc fit e = let z : pc ≡ pc + 0 = omega arith in subst (λ x. R.is_place x ≡ true) z e
+place-after R fits rows (x ∷ is) pc fit e =
     let size = length-append (R.spelling x) (spellings R.spelling is) in
     let z : pc + length (R.spelling x) + length (spellings R.spelling is) ≡ pc + length (spellings R.spelling (x ∷ is)) = omega (arith, size) in
-    subst (λ p. R.is_place p ≡ true) z (place-behind R fits rows is (pc + length (R.spelling x)) (All-tail fits x is fit) (rows.places pc x (All-head fits x is fit) e))
+    subst (λ p. R.is_place p ≡ true) z (place-after R fits rows is (pc + length (R.spelling x)) (All-tail fits x is fit) (rows.places pc x (All-head fits x is fit) e))
 
 -- so it may after the code of a node
-pub there-behind : {Q I : Type 0} (R : Rows Q I) (fits : I → Type 0) → AreRows R fits → (c : Code) → HasPlaces R c → (i : ℕ) (is : List I) → i < length c.nodes.nodes → IsNodeCode R fits c i is → IsThere R.is_place (behind R (c.place i) is)
-there-behind R fits rows c w i is lt k =
+pub there-after : {Q I : Type 0} (R : Rows Q I) (fits : I → Type 0) → AreRows R fits → (c : Code) → HasPlaces R c → (i : ℕ) (is : List I) → i < length c.nodes.nodes → IsNodeCode R fits c i is → IsThere R.is_place (behind R (c.place i) is)
+there-after R fits rows c w i is lt k =
     let low = w.nodes.low (i + 1) (omega (arith, lt)) in let high = w.nodes.high (i + 1) (omega (arith, lt)) in let next = k.next in
-    record { low = omega (arith, low, next); high = omega (arith, high, next); place = place-behind R fits rows is (c.place i) k.fit k.place }
+    record { low = omega (arith, low, next); high = omega (arith, high, next); place = place-after R fits rows is (c.place i) k.fit k.place }
 
 -- ---- a run that reaches the place of a node
 module _ {Q I : Type 0} (R : Rows Q I) (scratch : ℕ → Bool) (fits : I → Type 0) (isa : IsIsa R scratch fits) (c : Code) (i : ℕ) (n : Node) (t : IsInText c i n)

@@ -66,7 +66,7 @@ use Rattle.lg_carry.proofs.SpillChoiceLemmas.{choices-in-order}
 use Rattle.lg_carry.proofs.StackLemmas.{stacked-running, stacked-high, slot-where, open-where, locals-off, within-where, locals-above}
 use Rattle.lg_carry.proofs.TemporariesApartLemmas.{none-stood-for, none-staged, tried-spare}
 use Rattle.lg_carry.specs.Nodes.Isas.{IsIsa}
-use Rattle.lg_carry.specs.TextNodes.{IsInText, IsFrameOf, IsBehindProlog, stands_inside}
+use Rattle.lg_carry.specs.TextNodes.{IsInText, IsFrameOf, IsAfterProlog, stands_inside}
 use Rattle.lg_carry.specs.Nodes.Stretches.{HasFrame}
 use Rattle.lg_node.specs.Labels.{is_inner}
 use Rattle.lg_carry.specs.Nodes.Straight.{is_taken, spoils, HoldsRead, IsKept, from_to, StepsTo, ComputesNode, NeedWell, ComputingNodesCarry, PlainNodesCarry}
@@ -183,7 +183,7 @@ module _ {Q I : Type 0} (R : Rows Q I) (scratch : ℕ → Bool) (fits : I → Ty
   abbrev T : ℕ → Bool
   T = spoils scratch choices
 
-  place : IsBehindProlog c i
+  place : IsAfterProlog c i
   place = nodes-stand-inside c i n t inside_op
 
   -- FP, the stack pointer and the carry are not taken
@@ -360,7 +360,7 @@ module _ {Q I : Type 0} (R : Rows Q I) (scratch : ℕ → Bool) (fits : I → Ty
 
       leaves : Leaves R is fp 0 left M (R.processor.seen q).mark flag (lost choices T) q
       leaves = saves-restore R isa.spills choices (from_to (R.processor.seen q) left M flag) body fp 0 T is-fp st.seen.words h.in_order (keep-taken choices left w left-taken)
-          record { before = fp-held; behind = left-other (frame_register target) other-frame ∙ fp-held; unspoiled = ap (λ b. b || scratch (frame_register target)) frame-untaken ∙ other-frame.kept; room_before = slots-room; room_behind = (let z = left-other (stack_register target) other-stack in let y = slots-room in omega (arith, z, y)); stack_unspoiled = ap (λ b. b || scratch (stack_register target)) stack-untaken ∙ other-stack.kept }
+          record { before = fp-held; behind = left-other (frame_register target) other-frame ∙ fp-held; unspoiled = ap (λ b. b || scratch (frame_register target)) frame-untaken ∙ other-frame.kept; room_before = slots-room; room_after = (let z = left-other (stack_register target) other-stack in let y = slots-room in omega (arith, z, y)); stack_unspoiled = ap (λ b. b || scratch (stack_register target)) stack-untaken ∙ other-stack.kept }
           does-left q
           record { runs = runs; has_registers = λ r. refl; has_bytes = λ p off. refl; has_slots = λ p on. st.seen.stack p (in-stack fp p is-fp.low is-fp.high on); has_mark = refl; has_flags = refl }
           room

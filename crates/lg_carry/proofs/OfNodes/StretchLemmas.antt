@@ -31,12 +31,12 @@ all-back fits (x ∷ xs) ys h = all-back fits xs ys (λ k d lt. h (suc k) d (ome
 
 module _ {Q I : Type 0} (R : Rows Q I) (fits : I → Type 0) (ok : AreRows R fits) where
   -- after instructions another one may be
-  places-behind : (xs : List I) (pc : ℕ) → All fits xs → R.is_place pc ≡ true → R.is_place (pc + length (spellings R.spelling xs)) ≡ true
-  places-behind [] pc all at = subst (λ n. R.is_place n ≡ true) (omega arith) at
-  places-behind (x ∷ xs) pc all at =
+  places-after : (xs : List I) (pc : ℕ) → All fits xs → R.is_place pc ≡ true → R.is_place (pc + length (spellings R.spelling xs)) ≡ true
+  places-after [] pc all at = subst (λ n. R.is_place n ≡ true) (omega arith) at
+  places-after (x ∷ xs) pc all at =
       let size = length-append (R.spelling x) (spellings R.spelling xs) in
       let e : pc + length (R.spelling x) + length (spellings R.spelling xs) ≡ pc + length (spellings R.spelling (x ∷ xs)) = omega (arith, size) in
-      subst (λ n. R.is_place n ≡ true) e (places-behind xs (pc + length (R.spelling x)) (λ k d lt. all (suc k) d (omega (arith, lt))) (ok.places pc x (all 0 x (omega arith)) at))
+      subst (λ n. R.is_place n ≡ true) e (places-after xs (pc + length (R.spelling x)) (λ k d lt. all (suc k) d (omega (arith, lt))) (ok.places pc x (all 0 x (omega arith)) at))
 
   -- a part of instructions that are in the code is run
   module _ (moves : Bool) (from : ℕ) (front part back : List I) (q : Q) (k : StandsAt R moves fits from (front ++ (part ++ back)))
@@ -66,7 +66,7 @@ module _ {Q I : Type 0} (R : Rows Q I) (fits : I → Type 0) (ok : AreRows R fit
 
     pub part-run : RunsBlock R part q
     part-run = blocks-run R fits ok part q (back-bytes ++ k.more) (all-front fits part back (all-back fits front (part ++ back) k.fit)) block through (omega (arith, at, k.low))
-        (subst (λ n. R.is_place n ≡ true) (sym at) (places-behind front from (all-front fits front (part ++ back) k.fit) k.place)) there
+        (subst (λ n. R.is_place n ≡ true) (sym at) (places-after front from (all-front fits front (part ++ back) k.fit) k.place)) there
 
     pub part-passes : PassesIn R.processor moves from (behind R from (front ++ (part ++ back))) (length part) q (done R.does part q)
     part-passes =

@@ -3,7 +3,7 @@
 ghost use Rattle.std.specs.Prelude.{◌≡◌, ◌≤◌, map, slice_index};
 ghost use Rattle.lg_base.specs.Conventions.{argument_registers, is_kept};
 ghost use Rattle.lg_base.specs.declared.target.Target.{Target};
-ghost use Rattle.lg_cpu.specs.HostSteps.{arguments_of, behind_call};
+ghost use Rattle.lg_cpu.specs.HostSteps.{arguments_of, after_call};
 
 use crate::aarch64::Aarch64;
 use crate::aarch64::start::trash_flags;
@@ -24,8 +24,8 @@ fn keeps(register: usize) -> bool
 }
 
 // Returns the registers after a call of a host function that answered this.
-fn registers_behind_call(registers: &[u64; 32], trash: u64, answer: u64) -> [u64; 32]
-    ensures { slice_index result ≡ behind_call Target.Aarch64 32 (slice_index registers.now) trash answer }
+fn registers_after_call(registers: &[u64; 32], trash: u64, answer: u64) -> [u64; 32]
+    ensures { slice_index result ≡ after_call Target.Aarch64 32 (slice_index registers.now) trash answer }
 {
     let mut behind = *registers;
     for register in 0..32 {
@@ -70,12 +70,12 @@ impl Aarch64 {
 
     // Returns from a host function that answered this.
     fn leave_host(&mut self, answer: u64) -> CpuStep
-        ensures { Does (arrives (slice_index self.old.registers 30) (behind_call Target.Aarch64 32 (slice_index self.old.registers) self.old.board.trash answer)
+        ensures { Does (arrives (slice_index self.old.registers 30) (after_call Target.Aarch64 32 (slice_index self.old.registers) self.old.board.trash answer)
             (trash_flags self.old.board.trash) (a64_state self.old).bytes (a64_state self.old).mark) (a64_inner self.old) (a64_inner self.new) result }
     {
         let link = self.registers[30];
         self.flags.set(trash_flags(self.board.trash));
-        self.registers = registers_behind_call(&self.registers, self.board.trash, answer);
+        self.registers = registers_after_call(&self.registers, self.board.trash, answer);
         self.go(link)
     }
 

@@ -3,7 +3,7 @@
 ghost use Rattle.std.specs.Prelude.{◌≡◌, ◌≤◌, map, slice_index};
 ghost use Rattle.lg_base.specs.Conventions.{argument_registers, is_kept};
 ghost use Rattle.lg_base.specs.declared.target.Target.{Target};
-ghost use Rattle.lg_cpu.specs.HostSteps.{arguments_of, behind_call};
+ghost use Rattle.lg_cpu.specs.HostSteps.{arguments_of, after_call};
 
 use crate::answer::CpuStep;
 use crate::arguments::Arguments;
@@ -23,8 +23,8 @@ fn keeps(register: usize) -> bool
 }
 
 // Returns the registers after a call of a host function that answered this.
-fn registers_behind_call(registers: &[u64; 32], trash: u64, answer: u64) -> [u64; 32]
-    ensures { slice_index result ≡ behind_call Target.Riscv64 32 (slice_index registers.now) trash answer }
+fn registers_after_call(registers: &[u64; 32], trash: u64, answer: u64) -> [u64; 32]
+    ensures { slice_index result ≡ after_call Target.Riscv64 32 (slice_index registers.now) trash answer }
 {
     let mut behind = *registers;
     for register in 0..32 {
@@ -68,11 +68,11 @@ impl Riscv64 {
 
     // Returns from a host function that answered this.
     fn leave_host(&mut self, answer: u64) -> CpuStep
-        ensures { Does (goes (slice_index self.old.registers 1) (behind_call Target.Riscv64 32 (slice_index self.old.registers) self.old.board.trash answer)
+        ensures { Does (goes (slice_index self.old.registers 1) (after_call Target.Riscv64 32 (slice_index self.old.registers) self.old.board.trash answer)
             (rv_state self.old).bytes (rv_state self.old).mark) (rv_inner self.old) (rv_inner self.new) result }
     {
         let link = self.registers[1];
-        self.registers = registers_behind_call(&self.registers, self.board.trash, answer);
+        self.registers = registers_after_call(&self.registers, self.board.trash, answer);
         self.go(link)
     }
 

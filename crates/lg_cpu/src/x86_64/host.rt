@@ -4,7 +4,7 @@ ghost use Rattle.std.specs.Prelude.{◌≡◌, ◌≤◌, map, length, slice_ind
 ghost use Rattle.lg_base.specs.Conventions.{argument_registers, is_kept};
 ghost use Rattle.lg_base.specs.Words.{add_words};
 ghost use Rattle.lg_base.specs.declared.target.Target.{Target};
-ghost use Rattle.lg_cpu.specs.HostSteps.{arguments_of, behind_call, put};
+ghost use Rattle.lg_cpu.specs.HostSteps.{arguments_of, after_call, put};
 ghost use Rattle.lg_cpu.specs.X86Step.{takes_al};
 
 use crate::answer::CpuStep;
@@ -26,8 +26,8 @@ fn keeps(register: usize) -> bool
 }
 
 // Returns the registers after a call of a host function that answered this.
-fn registers_behind_call(registers: &[u64; 16], trash: u64, answer: u64) -> [u64; 16]
-    ensures registers { slice_index result ≡ behind_call Target.X86_64 16 (slice_index registers.now) trash answer }
+fn registers_after_call(registers: &[u64; 16], trash: u64, answer: u64) -> [u64; 16]
+    ensures registers { slice_index result ≡ after_call Target.X86_64 16 (slice_index registers.now) trash answer }
     ensures long { length result ≡ 16 }
 {
     let mut behind = *registers;
@@ -41,10 +41,10 @@ fn registers_behind_call(registers: &[u64; 16], trash: u64, answer: u64) -> [u64
 }
 
 // And after the return, with this stack pointer.
-fn registers_behind_return(registers: &[u64; 16], trash: u64, answer: u64, stack: u64) -> [u64; 16]
-    ensures { slice_index result ≡ put (behind_call Target.X86_64 16 (slice_index registers.now) trash answer) 4 stack }
+fn registers_after_return(registers: &[u64; 16], trash: u64, answer: u64, stack: u64) -> [u64; 16]
+    ensures { slice_index result ≡ put (after_call Target.X86_64 16 (slice_index registers.now) trash answer) 4 stack }
 {
-    let mut behind = registers_behind_call(registers, trash, answer);
+    let mut behind = registers_after_call(registers, trash, answer);
     behind[4] = stack;
     behind
 }
@@ -97,7 +97,7 @@ impl X86_64 {
             (x86_state self.old).bytes (x86_state self.old).mark) (x86_inner self.old) (x86_inner self.new) result }
     {
         let stack = self.registers[4].wrapping_add(8);
-        self.registers = registers_behind_return(&self.registers, self.board.trash, answer, stack);
+        self.registers = registers_after_return(&self.registers, self.board.trash, answer, stack);
         self.flags.set(no_flags());
         self.go(link)
     }

@@ -10,7 +10,7 @@ use Rattle.lg_base.specs.declared.host_name.HostName.TheVariants as host
 use Rattle.lg_base.specs.declared.target.Target.{Target}
 use Rattle.lg_base.specs.declared.target.Target.TheVariants.{X86_64, Aarch64, Riscv64}
 use Rattle.lg_host.specs.Host.{Host, Gives, Exits}
-use Rattle.lg_cpu.specs.HostSteps.{put, clobbered, behind_call, answer_at, returned}
+use Rattle.lg_cpu.specs.HostSteps.{put, clobbered, after_call, answer_at, returned}
 use Rattle.lg_cpu.specs.Laws.{IsSound}
 use Rattle.lg_cpu.specs.States.{CpuState}
 use Rattle.lg_cpu.specs.Steps.{Effect, Run, after, arrived, machine, status_of}
@@ -86,9 +86,9 @@ not-result target x k z = not-both (is_kept target (result_register target)) (re
 put-off : (w : ℕ → ℕ) (d v x : ℕ) → x ≢ d → put w d v x ≡ w x
 put-off w d v x ne = grind (arith, ne)
 
-kept-behind : (target : Target) (n : ℕ) (w : ℕ → ℕ) (trash v x : ℕ) → is_kept target x ≡ true
-    → behind_call target n w trash v x ≡ w x
-kept-behind target n w trash v x e =
+kept-after : (target : Target) (n : ℕ) (w : ℕ → ℕ) (trash v x : ℕ) → is_kept target x ≡ true
+    → after_call target n w trash v x ≡ w x
+kept-after target n w trash v x e =
     put-off (clobbered target n w trash) (result_register target) v x (not-result target x e)
     ∙ ap (λ b. if nat_lt x n && not b then trash else w x) e ∙ off (nat_lt x n)
   where
@@ -109,7 +109,7 @@ processor_of target effect flags_seen touches = record {
 -- it enters host functions where a step at an entry is the function's, and control returns to the link
 module _ (target : Target) (effect : CpuState → Effect CpuState) (flags_seen : Flags → Flags) (touches : ℕ → (ℕ → ℕ) → Span) (trash link : ℕ) (flags : Flags) (linked : link_register target ≡ Some link)
     (entered : (s : CpuState) (name : HostName) → host_by_address s.pc ≡ Some name → s.registers (stack_register target) % 16 ≡ 0
-    → effect s ≡ returned (answer_at target name (s.registers (stack_register target)) s) (s.registers link) (behind_call target 32 s.registers trash) flags s)
+    → effect s ≡ returned (answer_at target name (s.registers (stack_register target)) s) (s.registers link) (after_call target 32 s.registers trash) flags s)
     (sound : (s : CpuState) → IsSound s → IsSound (effect s).to) (ready : HostName → (ℕ → ℕ) → Bool) where
   abbrev P : Processor (Run CpuState)
   P = processor_of target effect flags_seen touches
@@ -121,20 +121,20 @@ module _ (target : Target) (effect : CpuState → Effect CpuState) (flags_seen :
   back-is q name stack back arr = subst (λ o. IsLinked o q.state.bytes q.state.registers stack back) linked arr.link
 
   answered : (q : Run CpuState) (name : HostName) (stack back : ℕ) (h : Host) → HasArrived P ready stack back name q → host_answer P name stack q ≡ h
-      → P.machine.step q ≡ after q (returned h (q.state.registers link) (behind_call target 32 q.state.registers trash) flags q.state)
+      → P.machine.step q ≡ after q (returned h (q.state.registers link) (after_call target 32 q.state.registers trash) flags q.state)
   answered q name stack back h arr e =
       let at : q.state.registers (stack_register target) ≡ stack = stack-is q name stack back arr in
       let whole = arr.whole in
       went q (effect q.state) arr.runs
       ∙ ap (after q) (entered q.state name arr.entry (ap (λ x. x % 16) at ∙ whole)
-      ∙ ap (λ x. returned x (q.state.registers link) (behind_call target 32 q.state.registers trash) flags q.state)
+      ∙ ap (λ x. returned x (q.state.registers link) (after_call target 32 q.state.registers trash) flags q.state)
       (ap (λ x. answer_at target name x q.state) at ∙ e))
 
   pub enters-hosts : EntersHosts P ready
   enters-hosts = record {
     gives = λ q name stack back v d to xs arr e.
         let z = answered q name stack back (Gives v d to xs) arr e in
-        let u : Run CpuState = after q (returned (Gives v d to xs) (q.state.registers link) (behind_call target 32 q.state.registers trash) flags q.state) in
+        let u : Run CpuState = after q (returned (Gives v d to xs) (q.state.registers link) (after_call target 32 q.state.registers trash) flags q.state) in
         let at = back-is q name stack back arr in
         let is-sound : IsSound u.state = subst (λ (r : Run CpuState). IsSound r.state) (sym (went q (effect q.state) arr.runs) ∙ z) (sound q.state record {
           pc = arr.small;
@@ -148,7 +148,7 @@ module _ (target : Target) (effect : CpuState → Effect CpuState) (flags_seen :
           here = at;
           pointer = kept-stack q.state.registers v ∙ stack-is q name stack back arr;
           result = put-result (clobbered target 32 q.state.registers trash) (result_register target) v;
-          kept = λ x k ne. kept-behind target 32 q.state.registers trash v x k;
+          kept = λ x k ne. kept-after target 32 q.state.registers trash v x k;
           memory_is = λ a. refl;
           mark = refl;
           words = is-sound.words;
@@ -167,5 +167,5 @@ module _ (target : Target) (effect : CpuState → Effect CpuState) (flags_seen :
       put-result : (w : ℕ → ℕ) (d v : ℕ) → put w d v d ≡ v
       put-result w d v = grind arith
 
-      kept-stack : (w : ℕ → ℕ) (v : ℕ) → behind_call target 32 w trash v (stack_register target) ≡ w (stack_register target)
-      kept-stack w v = kept-behind target 32 w trash v (stack_register target) (stack-kept target)
+      kept-stack : (w : ℕ → ℕ) (v : ℕ) → after_call target 32 w trash v (stack_register target) ≡ w (stack_register target)
+      kept-stack w v = kept-after target 32 w trash v (stack_register target) (stack-kept target)

@@ -9,7 +9,7 @@ use Rattle.lg_node.specs.declared.function.Function.{Function}
 use Rattle.lg_node.specs.declared.place.Place.{Place}
 use Rattle.lg_node.specs.declared.place.Place.TheVariants as place
 use Rattle.lg_node.specs.Functions.{home}
-use Rattle.lg_meaning.specs.Steps.{later, landing, last_landing, is_behind, is_target, jump_target, begins, is_entry_label, entry_target, function_here, Text}
+use Rattle.lg_meaning.specs.Steps.{later, landing, last_landing, is_after, is_target, jump_target, begins, is_entry_label, entry_target, function_here, Text}
 use Rattle.lg_meaning.specs.Texts.{text}
 use Rattle.lg_meaning.proofs.FunctionFacts.{function_at_home}
 use Rattle.lg_meaning.proofs.NodeFacts.{function_found}
@@ -101,14 +101,14 @@ module _ (c : Code) (i : ℕ) (n : Node) (t : IsInText c i n) where
           is.all k (omega (arith, at)) (omega (arith, at, order)) ∙ ap Some at
 
   -- a taken label of the function of a node is in it, after its `prolog`
-  target-behind : (at w k : ℕ) → jump_target T at w ≡ Some k → IsBehind c at k
-  target-behind at w k h = by (function_here c.shape.functions at) refl
-      (and_parts (slice_index_or c.shape.taken l.label false) (is_behind (function_here c.shape.functions at) k) l.passes).1
+  target-after : (at w k : ℕ) → jump_target T at w ≡ Some k → IsBehind c at k
+  target-after at w k h = by (function_here c.shape.functions at) refl
+      (and_parts (slice_index_or c.shape.taken l.label false) (is_after (function_here c.shape.functions at) k) l.passes).1
     where
       l : LandsAt (is_target T at) c.nodes.places c.addresses w k
       l = last-landed (is_target T at) c.nodes.places c.addresses w (length c.nodes.places) k h
 
-      by : (o : Option Function) → function_here c.shape.functions at ≡ o → is_behind o k ≡ true → IsBehind c at k
+      by : (o : Option Function) → function_here c.shape.functions at ≡ o → is_after o k ≡ true → IsBehind c at k
       by None e b = cc
       by (Some f) e b =
           let is = function_found c.nodes c.shape t.functions t.shape.functions at f e in
@@ -119,14 +119,14 @@ module _ (c : Code) (i : ℕ) (n : Node) (t : IsInText c i n) where
 
   pub target-inside : (at w k : ℕ) → jump_target T at w ≡ Some k → is_inside c k ≡ true
   target-inside at w k h =
-      let b = target-behind at w k h in
+      let b = target-after at w k h in
       let lt = b.behind in
       inner-is (home c.nodes.nodes k) k b.function.entry b.home_is (λ z. absurd (omega (arith, z, lt)))
 
   -- in the same function
   pub target-function : (at w k : ℕ) → jump_target T at w ≡ Some k → is_inside c at ≡ true → function_at c k ≡ function_at c at
   target-function at w k h inside =
-      let b = target-behind at w k h in
+      let b = target-after at w k h in
       let from = inside-home (home c.nodes.nodes at) at inside in
       let f = function_at_home c.nodes c.shape t.functions t.shape.functions at from.0 from.1 in
       function-same c i n t at k from.0 from.1 (b.home_is ∙ ap Some (same-entry f.0 b.function (sym f.1.here ∙ b.here) ∙ f.1.entry))

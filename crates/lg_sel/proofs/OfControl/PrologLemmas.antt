@@ -30,7 +30,7 @@ use Rattle.lg_carry.proofs.TextShapeLemmas.{shaped}
 use Rattle.lg_carry.specs.Nodes.Stretches.{behind}
 use Rattle.lg_meaning.proofs.FunctionFacts.{function_at_home}
 use Rattle.lg_carry.specs.Entries.{entry_at}
-use Rattle.lg_carry.specs.Outer.{IsBeforeEntry, IsBehindEntry, outer_stack}
+use Rattle.lg_carry.specs.Outer.{IsBeforeEntry, IsAfterEntry, outer_stack}
 use Rattle.lg_carry.proofs.EntryLemmas.{entry-here}
 use Rattle.lg_carry.proofs.OfNodes.HomesLemmas.{function-same}
 use Rattle.lg_carry.proofs.OfNodes.LeapLemmas.{outer-is, next-inside, node-stands, node-passes}
@@ -149,7 +149,7 @@ module _ {Q I : Type 0} (R : Rows Q I) (fits : I → Type 0) (saved : ℕ) (code
 
   -- what is kept for who called the entry is in the words of its frame
   keeps-outer : s.callers ≡ [] → IsBeforeEntry target c s.at (R.processor.seen q).registers
-      → IsBehindEntry target c (s.at + 1) s.frame [] (R.processor.seen u).bytes
+      → IsAfterEntry target c (s.at + 1) s.frame [] (R.processor.seen u).bytes
   keeps-outer none b =
       let begun : f.entry ≡ c.entry = begins-here ∙ sym (entry-here c.nodes i n t.here refl) ∙ ap (entry_at c.nodes) (sym at) ∙ b.enters in
       let is-entry : is_entry c (function_at c i) ≡ true = ap (is_entry c) function ∙ same-number f.entry c.entry begun in

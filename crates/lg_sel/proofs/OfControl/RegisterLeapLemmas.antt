@@ -34,7 +34,7 @@ use Rattle.lg_carry.specs.Nodes.Leaps.{HasPlaces, IsThere, HostArrival, EntersHo
 use Rattle.lg_carry.specs.Nodes.Stretches.{behind, Arrival}
 use Rattle.lg_carry.proofs.OfNodes.CallLemmas.{frame, held-frame, enters}
 use Rattle.lg_carry.proofs.OfNodes.HostLemmas.{host-called}
-use Rattle.lg_carry.proofs.OfNodes.LeapLemmas.{in-some, behind-prolog, next-inside, node-stands, there}
+use Rattle.lg_carry.proofs.OfNodes.LeapLemmas.{in-some, after-prolog, next-inside, node-stands, there}
 use Rattle.lg_carry.proofs.OfNodes.OperandLemmas.{named-here, read-is-live}
 use Rattle.lg_carry.proofs.OfNodes.RegisterLemmas.{given}
 use Rattle.lg_carry.proofs.OfNodes.StraightLemmas.{text-keeps}
@@ -60,7 +60,7 @@ module _ {Q I : Type 0} (R : Rows Q I) (fits : I → Type 0) (rows : AreRows R f
       n = jmpr_node a line
 
       inside : is_inside c i ≡ true
-      inside = let p = in-some c i (jmpr_node a line) t refl in behind-prolog c i (jmpr_node a line) t p.0 p.1 refl
+      inside = let p = in-some c i (jmpr_node a line) t refl in after-prolog c i (jmpr_node a line) t p.0 p.1 refl
 
       reads : a ≢ Fp → live_before (jmpr_node a line) S (number_of a) ≡ true
       reads ne = read-is-live (jmpr_node a line) S a (λ z. named-here Read form.Read [] a [] refl z) ne
@@ -187,7 +187,7 @@ module _ {Q I : Type 0} (R : Rows Q I) (ready : HostName → (ℕ → ℕ) → B
   register-calls-carry c i a line size S w t is-frame k live s returns out q at st =
       let n = callr_node a line in
       let p = in-some c i n t refl in
-      word-called c i n a size S w t is-frame k (behind-prolog c i n t p.0 p.1 refl) (next-inside c i n t p.0 p.1 refl) refl saved
+      word-called c i n a size S w t is-frame k (after-prolog c i n t p.0 p.1 refl) (next-inside c i n t p.0 p.1 refl) refl saved
       (λ ne. read-is-live n S a (λ z. named-here Read form.Read [] a [] refl z) ne)
       live s returns out q at st [] (omega arith) record { is = λ j x lt z. cc } record { is = λ j x lt z. cc }
       (ap (λ m. step_at (text c.nodes c.shape c.addresses) m s) (ap (slice_get c.nodes.nodes) at ∙ t.here))
@@ -202,7 +202,7 @@ module _ {Q I : Type 0} (R : Rows Q I) (ready : HostName → (ℕ → ℕ) → B
   register-finishes-carry c i a line size S w t is-frame k live s returns out q at st =
       let n = finishr_node a line in
       let p = in-some c i n t refl in
-      word-called c i n a size S w t is-frame k (behind-prolog c i n t p.0 p.1 refl) (next-inside c i n t p.0 p.1 refl) refl saved
+      word-called c i n a size S w t is-frame k (after-prolog c i n t p.0 p.1 refl) (next-inside c i n t p.0 p.1 refl) refl saved
       (λ ne. read-is-live n S a (λ z. named-here Read form.Read [] a [] refl z) ne)
       live s returns out q at st s.pushed (let f = (shaped c.nodes t.well).few s.at (omega (arith, st.state.fits.inside)) in
       omega (arith, f, st.state.fits.pushed)) st.state.pushed st.state.outgoing

@@ -23,14 +23,14 @@ use Rattle.lg_carry.specs.FinalNodes.{Code, is_inside, saved_at, function_at, is
 use Rattle.lg_carry.specs.Frames.{at_call, IsSettled, return_address}
 use Rattle.lg_carry.specs.Homes.{homes_at}
 use Rattle.lg_carry.specs.NodeCode.{live_before, live_behind, is_return, ReturnsTo}
-use Rattle.lg_carry.specs.Outer.{IsBehindEntry, HasLeft, outer_stack}
+use Rattle.lg_carry.specs.Outer.{IsAfterEntry, HasLeft, outer_stack}
 use Rattle.lg_carry.specs.Passages.{IsNodeCode, Passes}
 use Rattle.lg_carry.specs.Registers.{HasWord}
 use Rattle.lg_carry.specs.Rows.{Rows}
 use Rattle.lg_carry.specs.Stands.{StatesAgree, Stands}
 use Rattle.lg_carry.specs.TextNodes.{IsInText, IsFrameOf}
 use Rattle.lg_carry.proofs.AgreeAcrossFramesLemmas.{return-agrees}
-use Rattle.lg_carry.proofs.OuterLemmas.{behind-entry}
+use Rattle.lg_carry.proofs.OuterLemmas.{after-entry}
 use Rattle.lg_carry.proofs.PassageLemmas.{passages-lead}
 use Rattle.lg_carry.proofs.TextShapeLemmas.{shaped}
 use Rattle.lg_carry.specs.Nodes.Leaps.{HasPlaces}
@@ -124,9 +124,9 @@ module _ {Q I : Type 0} (R : Rows Q I) (fits : I → Type 0) (saved : ℕ) (code
     -- from the entry's frame: what is kept for who called it comes back
     leaves : s.callers ≡ [] → HasLeft target c v (R.processor.seen u)
     leaves e =
-        let o : IsBehindEntry target c s.at s.frame [] (R.processor.seen q).bytes =
-        subst (λ gs. IsBehindEntry target c s.at s.frame gs (R.processor.seen q).bytes) e
-        (behind-entry (is_inside c s.at) target c s.at s.frame s.callers (R.processor.seen q) here-inside st.state.outer) in
+        let o : IsAfterEntry target c s.at s.frame [] (R.processor.seen q).bytes =
+        subst (λ gs. IsAfterEntry target c s.at s.frame gs (R.processor.seen q).bytes) e
+        (after-entry (is_inside c s.at) target c s.at s.frame s.callers (R.processor.seen q) here-inside st.state.outer) in
         let is-entry : is_entry c (function_at c i) ≡ true = ap (λ j. is_entry c (function_at c j)) (sym at) ∙ o.entry in
         let all : c.first ≡ saved = sym (ap (λ x. if x then c.first else c.saved) is-entry) ∙ is-saved in
         let high : s.frame.sp ≡ outer_stack target c = ap (entry_stack s.frame) (sym e) ∙ st.state.entry in

@@ -21,7 +21,7 @@ use Rattle.lg_carry.specs.Stands.{Stands}
 use Rattle.lg_carry.specs.TextNodes.{IsInText}
 use Rattle.lg_carry.specs.Nodes.Stretches.{behind}
 use Rattle.lg_carry.proofs.OfNodes.HomesLemmas.{next-function}
-use Rattle.lg_carry.proofs.OfNodes.LeapLemmas.{in-some, behind-prolog, next-inside}
+use Rattle.lg_carry.proofs.OfNodes.LeapLemmas.{in-some, after-prolog, next-inside}
 use Rattle.lg_carry.proofs.OfNodes.LiveLemmas.{writes_none}
 use Rattle.lg_carry.proofs.OfNodes.StraightLemmas.{text-keeps}
 use Rattle.lg_carry.proofs.OfNodes.StretchLemmas.{none-passed}
@@ -175,10 +175,10 @@ module _ {Q I : Type 0} (R : Rows Q I) (fits : I → Type 0) (rows : AreRows R f
             fits = text-keeps c i n t s u [] at (omega (arith, st.state.seen.low, st.state.mark))
                 (omega (arith, st.state.seen.high, st.state.mark)) st.state.fits goes;
             side = ap (is_inside c) m.at ∙ ap (λ j. is_inside c (j + 1)) at ∙ next-inside c i n t p.0 p.1 is.epilog
-                ∙ sym (ap (is_inside c) at ∙ behind-prolog c i n t p.0 p.1 is.prolog);
+                ∙ sym (ap (is_inside c) at ∙ after-prolog c i n t p.0 p.1 is.prolog);
             function = λ z. ap (function_at c) m.at ∙ ap (λ j. function_at c (j + 1)) at
                 ∙ next-function c i n t (ap (is_inside c) (sym at) ∙ z) is.epilog ∙ ap (function_at c) (sym at);
-            enters = λ z none. let y : false ≡ true = sym z ∙ ap (is_inside c) at ∙ behind-prolog c i n t p.0 p.1 is.prolog in cc;
+            enters = λ z none. let y : false ≡ true = sym z ∙ ap (is_inside c) at ∙ after-prolog c i n t p.0 p.1 is.prolog in cc;
             regs = m.regs;
             carry = m.carry;
             answer = m.answer;

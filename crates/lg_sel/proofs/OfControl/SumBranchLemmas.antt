@@ -40,7 +40,7 @@ use Rattle.lg_sel.specs.Control.SumBranches.{SumBranchesLead, sum_branch_node, S
 use Rattle.lg_carry.specs.TextNodes.{IsInText, IsFrameOf}
 use Rattle.lg_carry.specs.Nodes.Stretches.{behind, Way}
 use Rattle.lg_carry.proofs.OfNodes.HomesLemmas.{next-function}
-use Rattle.lg_carry.proofs.OfNodes.LeapLemmas.{bound-at, Lands, jump-lands, in-some, behind-prolog, next-inside, in-nodes, node-stands, to-label, there-behind}
+use Rattle.lg_carry.proofs.OfNodes.LeapLemmas.{bound-at, Lands, jump-lands, in-some, after-prolog, next-inside, in-nodes, node-stands, to-label, there-after}
 use Rattle.lg_carry.proofs.OfNodes.LeapLemmas.{way-leads}
 use Rattle.lg_carry.proofs.OfNodes.LiveLemmas.{still-live}
 use Rattle.lg_carry.proofs.OfNodes.OperandLemmas.{named-here, named-later, read-is-live}
@@ -128,10 +128,10 @@ module _ {Q I : Type 0} (R : Rows Q I) (scratch : ℕ → Bool) (fits : I → Ty
       by false e = only-written l a third line o (last_of third) r ∙ e
 
   inside : is_inside c i ≡ true
-  inside = let p = in-some c i n t refl in behind-prolog c i n t p.0 p.1 refl
+  inside = let p = in-some c i n t refl in after-prolog c i n t p.0 p.1 refl
 
   lands : Lands c i l
-  lands = jump-lands c i n t l (λ p e. behind-prolog c i n t p e refl) (t.well.jumps i n l (operand.Reg a ∷ third ∷ []) t.here refl refl)
+  lands = jump-lands c i n t l (λ p e. after-prolog c i n t p e refl) (t.well.jumps i n l (operand.Reg a ∷ third ∷ []) t.here refl refl)
 
   module _ (live : Frame → ℕ → Bool) (s : State) (out : List ℕ) (q : Q) (at : s.at ≡ i) (st : Stands R.processor c live s out q (live_before n S)) where
     abbrev W : ℕ → ℕ
@@ -185,7 +185,7 @@ module _ {Q I : Type 0} (R : Rows Q I) (scratch : ℕ → Bool) (fits : I → Ty
     taken x y ea near eb small goes' = by (branch_sum_goes o x y) refl
       where
         next : IsThere R.is_place high
-        next = there-behind R fits isa.rows c w i is (in-nodes c i n t) k
+        next = there-after R fits isa.rows c w i is (in-nodes c i n t) k
 
         way : (branch_sum_goes o x y ≡ true → IsThere R.is_place (slice_index c.addresses l.0))
             → Way R.processor scratch (c.place i) high (with_register W ra (branch_sum_value o x y))

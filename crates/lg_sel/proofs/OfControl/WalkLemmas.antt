@@ -32,8 +32,8 @@ use Rattle.lg_carry.proofs.MoveLemmas.{move-agrees}
 use Rattle.lg_carry.proofs.PassageLemmas.{passages-lead}
 use Rattle.lg_carry.specs.Nodes.Stretches.{behind}
 use Rattle.lg_carry.proofs.OfNodes.HomesLemmas.{next-function}
-use Rattle.lg_carry.proofs.OfNodes.LeapLemmas.{bound-at, Lands, jump-lands, outer-is, behind-prolog, next-inside, in-nodes, node-stands, node-passes, to-label}
-use Rattle.lg_carry.proofs.OfNodes.LeapLemmas.{there-behind}
+use Rattle.lg_carry.proofs.OfNodes.LeapLemmas.{bound-at, Lands, jump-lands, outer-is, after-prolog, next-inside, in-nodes, node-stands, node-passes, to-label}
+use Rattle.lg_carry.proofs.OfNodes.LeapLemmas.{there-after}
 use Rattle.lg_carry.proofs.OfNodes.LiveLemmas.{writes_none, unwritten, still-live}
 use Rattle.lg_carry.proofs.OfNodes.StraightLemmas.{text-keeps}
 use Rattle.lg_sel.specs.Control.Walks.{Walk, JumpsWalk, jump_node, JumpsCarry, AlignmentsWalk, align_node, AlignmentsCarry}
@@ -94,7 +94,7 @@ module _ {Q I : Type 0} (R : Rows Q I) (fits : I → Type 0) (rows : AreRows R f
   jumps-carry c i l line S w t k live s returns out q at st =
       let n : Node = jump_node l line in
       let is : List I = code (c.place i) (slice_index c.addresses l.0) in
-      let lands : Lands c i l = jump-lands c i n t l (λ p e. behind-prolog c i n t p e refl) (t.well.jumps i n l [] t.here refl refl) in
+      let lands : Lands c i l = jump-lands c i n t l (λ p e. after-prolog c i n t p e refl) (t.well.jumps i n l [] t.here refl refl) in
       let u : State = to s lands.node in
       let goes : step c.nodes c.shape c.addresses s ≡ Goes u [] =
       ap (λ x. step_at (text c.nodes c.shape c.addresses) x s) (ap (slice_get c.nodes.nodes) at ∙ t.here) ∙ ap (λ o. Goes (to s (node_in o)) []) lands.place in
@@ -139,7 +139,7 @@ align-side c i m line j t e lt = by (home c.nodes.nodes i) refl
     outer o (inr some) = outer-is o j some
 
     by : (o : Option ℕ) → home c.nodes.nodes i ≡ o → is_inside c j ≡ is_inside c i
-    by (Some p) h = ap (is_inside c) e ∙ next-inside c i (align_node m line) t p h refl ∙ sym (behind-prolog c i (align_node m line) t p h refl)
+    by (Some p) h = ap (is_inside c) e ∙ next-inside c i (align_node m line) t p h refl ∙ sym (after-prolog c i (align_node m line) t p h refl)
     by None h =
         let s : IsSuccessor c.nodes c.shape i j = record { node = align_node m line; here = t.here; goes = (e, lt) } in
         outer (home c.nodes.nodes j) (successors_enter c.nodes c.shape t.shape i j h s) ∙ sym (ap (λ x. is_inner x i) h)
@@ -157,7 +157,7 @@ module _ {Q I : Type 0} (R : Rows Q I) (fits : I → Type 0) (rows : AreRows R f
       let next : u.at ≡ i + 1 = ap (λ j. j + 1) at in
       let high : ℕ = behind R (c.place i) is in
       let walk = lead (c.place i) m q (first-true (is_alignment m) (t.formed n t.here).forms) (node-stands R false fits c i is (ap (moves_at R.processor.target) t.here) k)
-      (there-behind R fits rows c w i is (in-nodes c i n t) k)
+      (there-after R fits rows c w i is (in-nodes c i n t) k)
       st.runs (st.state.here ∙ ap c.place at) in
       let end : high ≡ c.place u.at = sym k.next ∙ ap c.place (sym next) in
       inr (walk-leads R fits rows c i n is t k record { moves = refl; sinks = refl; rises = refl } refl S live s out q st u

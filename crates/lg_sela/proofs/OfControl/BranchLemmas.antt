@@ -94,8 +94,8 @@ leaves-same false s = refl
 sign-of : (v : ℕ) → v < 4096 → is_negative v ≡ false
 sign-of v h = grind (arith, h)
 
-sign-behind : (v : ℕ) → v < 2 ^ 64 → is_small (negated v) ≡ true → is_small v ≡ false → is_negative v ≡ true
-sign-behind v k near far = grind (arith, k, near, far)
+sign-after : (v : ℕ) → v < 2 ^ 64 → is_small (negated v) ≡ true → is_small v ≡ false → is_negative v ≡ true
+sign-after v k near far = grind (arith, k, near, far)
 
 pub held-flags : (x v : ℕ) → x < 2 ^ 64 → v < 2 ^ 64 → is_small v ≡ false → is_small (negated v) ≡ true → a64.sum_flags x (negated v) 0 ≡ difference_flags x v 0
 held-flags x v h k far near =
@@ -106,7 +106,7 @@ held-flags x v h k far near =
     let leaves : a64.sum_leaves x (negated v) (a64.sum_of x (negated v) 0) ≡ a64.difference_leaves x v (a64.difference_of x v 0) =
     ap (λ n. if differ (is_negative x) n then false else differ (is_negative x) (is_negative (a64.sum_of x (negated v) 0))) (sign-of (negated v) little)
     ∙ leaves-same (is_negative x) (is_negative (a64.sum_of x (negated v) 0))
-    ∙ ap (λ n. if differ (is_negative x) n then differ (is_negative x) (is_negative (a64.sum_of x (negated v) 0)) else false) (sym (sign-behind v k near far))
+    ∙ ap (λ n. if differ (is_negative x) n then differ (is_negative x) (is_negative (a64.sum_of x (negated v) 0)) else false) (sym (sign-after v k near far))
     ∙ ap (λ s. a64.difference_leaves x v s) value in
     λ i. a64.result_flags (value i) (carry i) (leaves i)
 

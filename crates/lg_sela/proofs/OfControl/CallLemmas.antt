@@ -19,7 +19,7 @@ use Rattle.lg_a64.specs.declared.instruction.BranchRegOp.TheVariants.{Blr}
 use Rattle.lg_a64.specs.declared.instruction.Instr.{Instr}
 use Rattle.lg_a64.specs.declared.instruction.Instr.TheVariants as instr
 use Rattle.lg_cpu.specs.A64Step.{link_to, trash_flags, host_effect, effect_at, effect, act}
-use Rattle.lg_cpu.specs.HostSteps.{put, behind_call, answer_at, returned}
+use Rattle.lg_cpu.specs.HostSteps.{put, after_call, answer_at, returned}
 use Rattle.lg_cpu.specs.Laws.{AreBytes}
 use Rattle.lg_cpu.specs.States.{CpuState}
 use Rattle.lg_cpu.specs.Steps.{Run, Effect, after, arrived, faults, status_of}
@@ -48,7 +48,7 @@ use Rattle.lg_sela.specs.Control.Calls.{call_code}
 use Rattle.lg_sela.specs.Control.HostCalls.{host_code, a64_ready}
 use Rattle.lg_sela.specs.Control.RegisterLeaps.{register_call_code}
 use Rattle.lg_sela.proofs.OfControl.ComputedLemmas.{same-bytes}
-use Rattle.lg_sela.proofs.OfControl.StretchLemmas.{stands-high, one-passed, front-high, front-runs, front-passed, front-run, front-behind}
+use Rattle.lg_sela.proofs.OfControl.StretchLemmas.{stands-high, one-passed, front-high, front-runs, front-passed, front-run, front-after}
 use Rattle.lg_sela.proofs.OfControl.WalkLemmas.{leads-there, reads-portable}
 
 module _ (code : List ℕ) (trash : ℕ) (small : length code ≤ most_code) (bytes : AreBytes code) (word : trash < 2 ^ 64) where
@@ -60,10 +60,10 @@ module _ (code : List ℕ) (trash : ℕ) (small : length code ≤ most_code) (by
   linked-arrival from to x q k there runs above at does =
       let high = stands-high false code trash small bytes word from (x ∷ []) (omega arith) k in
       let e : Effect CpuState = link_to q.state to in
-      let behind-it : ℕ = behind (a64_rows code trash) from (x ∷ []) in
+      let after-it : ℕ = behind (a64_rows code trash) from (x ∷ []) in
       let pass = one-passed false code trash small bytes word from [] x [] q e k runs above (at ∙ omega arith) does in
-      arrived-with (a64_processor code trash) link refl from behind-it behind-it to 1 q (after q e) pass
-      (one-sinks (a64_processor code trash) from behind-it q (after q e) pass)
+      arrived-with (a64_processor code trash) link refl from after-it after-it to 1 q (after q e) pass
+      (one-sinks (a64_processor code trash) from after-it q (after q e) pass)
       (omega arith) (omega arith) there refl
       (put-same q.state.registers link (add_words q.state.pc 4) ∙ pc-next q.state.pc (omega (arith, high, at)) ∙ omega (arith, at))
       (λ z ne. put-other q.state.registers link (add_words q.state.pc 4) z ne) refl refl
@@ -121,7 +121,7 @@ module _ (code : List ℕ) (trash : ℕ) (small : length code ≤ most_code) (by
     ran = front-runs false code trash small bytes word from front (call ∷ []) q k (omega arith) all runs at
 
     here : r.state.pc ≡ from + 4 * length front
-    here = front-behind false code trash small bytes word from front (call ∷ []) q k (omega arith) all runs at
+    here = front-after false code trash small bytes word from front (call ∷ []) q k (omega arith) all runs at
 
     top : from + 4 * length front + 4 * 1 ≤ code_base + most_code
     top = front-high false code trash small bytes word from front (call ∷ []) q k (omega arith) all runs at
@@ -167,7 +167,7 @@ module _ (code : List ℕ) (trash : ℕ) (small : length code ≤ most_code) (by
 
   -- ---- the step of a host function
   entered : (s : CpuState) (name : HostName) → host_by_address s.pc ≡ Some name → s.registers 31 % 16 ≡ 0
-      → effect code trash s ≡ returned (answer_at Aarch64 name (s.registers 31) s) (s.registers link) (behind_call Aarch64 32 s.registers trash) (trash_flags trash) s
+      → effect code trash s ≡ returned (answer_at Aarch64 name (s.registers 31) s) (s.registers link) (after_call Aarch64 32 s.registers trash) (trash_flags trash) s
   entered s name is whole =
       let even : (s.registers 31 % 16 == 0) ≡ true = ap (λ n. n == 0) whole in
       ap (λ o. effect_at o code trash s) is

@@ -60,7 +60,7 @@ use Rattle.lg_sela_values.specs.Items.{low_quarter, next_quarter}
 use Rattle.lg_sela_values.proofs.UnaryCodeLemmas.{unary-computed, unary-keeps}
 use Rattle.lg_sela.specs.Control.Returns.{result, kept_loads, restores, link_load, near_return, far_return, leaving_code, return_code, result_code, returned_code}
 use Rattle.lg_sela.proofs.OfControl.ComputedLemmas.{same-bytes}
-use Rattle.lg_sela.proofs.OfControl.StretchLemmas.{front-high, front-runs, front-passed, front-behind, front-run}
+use Rattle.lg_sela.proofs.OfControl.StretchLemmas.{front-high, front-runs, front-passed, front-after, front-run}
 
 -- a load by FP
 load-act : (q : CpuState) (rd by base address w : ℕ) (offset : ℤ) → q.registers by ≡ base → add_words base (word_of offset) ≡ address
@@ -398,16 +398,16 @@ straight-restores (suc (suc (suc (suc n)))) is h = h
 return-block : (kept frame : ℕ) → IsBlock is_straight (return_code kept frame)
 return-block kept frame = by (nat_lt frame 4096)
   where
-    behind-loads : (is : List Instr) → list_all is_straight is ≡ true → IsBlock is_straight (restores kept ++ (is ++ (instr.BranchReg Ret link ∷ [])))
-    behind-loads is h =
+    after-loads : (is : List Instr) → list_all is_straight is ≡ true → IsBlock is_straight (restores kept ++ (is ++ (instr.BranchReg Ret link ∷ [])))
+    after-loads is h =
         subst (IsBlock is_straight) (append_assoc (restores kept) is (instr.BranchReg Ret link ∷ []))
         (block-of is_straight (restores kept ++ is) (instr.BranchReg Ret link) (straight-restores kept is h))
 
     by : (b : Bool) → IsBlock is_straight (restores kept ++ (link_load ∷ (if b then near_return frame else far_return)))
     by true =
-        behind-loads (link_load ∷ instr.Unscaled Ldur rows.frame_pointer rows.frame_pointer (pos 0) ∷ instr.Imm Addi stack_pointer stack_pointer frame false ∷ []) refl
+        after-loads (link_load ∷ instr.Unscaled Ldur rows.frame_pointer rows.frame_pointer (pos 0) ∷ instr.Imm Addi stack_pointer stack_pointer frame false ∷ []) refl
     by false =
-        behind-loads (link_load ∷ instr.Imm Addi stack_pointer rows.frame_pointer 0 false ∷ instr.Unscaled Ldur rows.frame_pointer stack_pointer (pos 0)
+        after-loads (link_load ∷ instr.Imm Addi stack_pointer rows.frame_pointer 0 false ∷ instr.Unscaled Ldur rows.frame_pointer stack_pointer (pos 0)
         ∷ instr.Imm Addi stack_pointer stack_pointer 16 false ∷ []) refl
 
 pub returns : (base n k : ℕ) (q : Run CpuState) (kept frame sp back : ℕ) → 0x3FF00010 + 272 ≤ sp → sp ≤ 0x40000000 → 272 ≤ frame → InFrame base n k frame sp q
@@ -551,7 +551,7 @@ module _ (code : List ℕ) (trash : ℕ) (small : length code ≤ most_code) (by
   q1 = done a64_does front q
 
   here1 : q1.state.pc ≡ from + 4 * length front
-  here1 = front-behind true code trash small bytes word from front (return_code saved frame) q k short.some made.computes runs at
+  here1 = front-after true code trash small bytes word from front (return_code saved frame) q k short.some made.computes runs at
 
   registers-are : q1.state.registers ≡ (computed front w).registers
   registers-are = ap (λ h. h.registers) ran.holds

@@ -68,8 +68,8 @@ module _ (moves : Bool) (code : List ℕ) (trash : ℕ) (small : length code ≤
     front-passed = part-passes (a64_rows code trash) IsInstr rows moves from [] front back q k (at ∙ omega arith)
         (straight-block is_straight front (all-straight front all)) front-runs.through
 
-    pub front-behind : (done a64_does front q).state.pc ≡ from + 4 * length front
-    front-behind = let b = front-runs.behind in let long = spellings-long front in omega (arith, b, long, at)
+    pub front-after : (done a64_does front q).state.pc ≡ from + 4 * length front
+    front-after = let b = front-runs.behind in let long = spellings-long front in omega (arith, b, long, at)
 
     pub front-run : RunsBlock (a64_rows code trash) front q
     front-run = part-run (a64_rows code trash) IsInstr rows moves from [] front back q k (at ∙ omega arith)

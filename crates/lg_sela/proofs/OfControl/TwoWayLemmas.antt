@@ -46,7 +46,7 @@ use Rattle.lg_sela.specs.Control.Branches.{turned}
 use Rattle.lg_sela.specs.Control.ControlItems.{second_register}
 use Rattle.lg_sela.specs.Control.TwoWays.{leads_if, branch_if, second_code}
 use Rattle.lg_sela.proofs.OfControl.ComputedLemmas.{same-bytes, holds-seen}
-use Rattle.lg_sela.proofs.OfControl.StretchLemmas.{one-passed, front-high, front-runs, front-passed, front-behind}
+use Rattle.lg_sela.proofs.OfControl.StretchLemmas.{one-passed, front-high, front-runs, front-passed, front-after}
 use Rattle.lg_sela.proofs.OfControl.WalkLemmas.{leads-there}
 
 -- ---- the second operand
@@ -146,7 +146,7 @@ module _ (code : List ℕ) (trash : ℕ) (small : length code ≤ most_code) (by
   ran = front-runs false code trash small bytes word from front back q k more all runs at
 
   here : r.state.pc ≡ start
-  here = front-behind false code trash small bytes word from front back q k more all runs at
+  here = front-after false code trash small bytes word from front back q k more all runs at
 
   even : start % 4 ≡ 0
   even = let e = aligned from k.place in omega (arith, e)

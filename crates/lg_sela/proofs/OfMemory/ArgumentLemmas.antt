@@ -24,12 +24,12 @@ use Rattle.lg_sela_values.proofs.OfProcessor.RegisterLemmas.{register-small}
 use Rattle.lg_carry.specs.Nodes.Straight.{spoils, from_to}
 use Rattle.lg_carry.specs.Memory.Arguments.{ArgumentsDo, HasArgumentCode}
 use Rattle.lg_carry.specs.Memory.Loads.{IsReadable}
-use Rattle.lg_carry.proofs.OfMemory.BehindLemmas.{told, seen_behind, behind-computed}
+use Rattle.lg_carry.proofs.OfMemory.AfterLemmas.{told, seen_after, after-computed}
 use Rattle.lg_sela.specs.Memory.Accesses.{load_row}
 use Rattle.lg_sela.specs.Memory.ArgumentCode.{home_distance, stack_count, home_load, a64_argument}
 use Rattle.lg_sela.proofs.OfMemory.EndLemmas.{off-scratch}
 use Rattle.lg_sela.proofs.OfMemory.LoadLemmas.{load-does, word-does}
-use Rattle.lg_sela.proofs.OfMemory.PlaceLemmas.{none-behind}
+use Rattle.lg_sela.proofs.OfMemory.PlaceLemmas.{none-after}
 
 -- ---- the argument's place, from FP
 home-leads : (sp k : ℕ) → k < 8 → 272 ≤ sp → sp ≤ 0x40000000 → sub_words (frame_pointer sp) (home_distance k) ≡ home_word (frame_pointer sp) k
@@ -71,11 +71,11 @@ module _ (code : List ℕ) (trash : ℕ) (t : ValueType) (s : Seen) (rd a v fp :
       let y = instr.Imm Subi link 29 (home_distance k) false in
       let x = instr.Scaled (load_row t) rd link 0 in
       let h = sub_words (s.registers 29) (home_distance k) in
-      let mid = seen_behind M (y ∷ []) s in
-      behind-computed M (is-computer code trash) (y ∷ []) (x ∷ []) s (with_register s.registers rd (extended_by_type t v)) s.bytes s.flags fp 0 (spoils a64_scratch []) (omega arith) refl
+      let mid = seen_after M (y ∷ []) s in
+      after-computed M (is-computer code trash) (y ∷ []) (x ∷ []) s (with_register s.registers rd (extended_by_type t v)) s.bytes s.flags fp 0 (spoils a64_scratch []) (omega arith) refl
       (told (a64_rows code trash) mid (with_register mid.registers rd (extended_by_type t v)) (with_register s.registers rd (extended_by_type t v)) s.bytes s.bytes mid.flags s.flags (x ∷ []) fp 0 (spoils a64_scratch [])
       (λ r free. ap (λ z. if r == rd then extended_by_type t v else z) (put-other s.registers link h r (off-scratch r free))) (λ r off. refl) same
-      (load-does code trash t mid rd link 0 a v fp (spoils a64_scratch []) small (ap (λ z. add_words z (0 * width t)) (put-same s.registers link h ∙ at) ∙ none-behind (width t) a low) readable (s.registers 31) (put-other s.registers link h 31 (λ e. absurd (omega (arith, e)))) safe lt))
+      (load-does code trash t mid rd link 0 a v fp (spoils a64_scratch []) small (ap (λ z. add_words z (0 * width t)) (put-same s.registers link h ∙ at) ∙ none-after (width t) a low) readable (s.registers 31) (put-other s.registers link h 31 (λ e. absurd (omega (arith, e)))) safe lt))
 
   from-stack : (k : ℕ) → add_words (s.registers 29) (16 + 8 * (k - 8)) ≡ a → Loads (instr.Scaled (load_row t) rd 29 (stack_count t k) ∷ [])
   from-stack k at = load-does code trash t s rd 29 (stack_count t k) a v fp (spoils a64_scratch []) small (ap (add_words (s.registers 29)) (stack-whole t k) ∙ at) readable (s.registers 31) refl safe lt

@@ -17,7 +17,7 @@ use Rattle.lg_sela_values.proofs.OfProcessor.ComputerLemmas.{spellings-long}
 use Rattle.lg_sela_values.proofs.OfProcessor.RowLemmas.{went}
 use Rattle.lg_sela_values.proofs.OfProcessor.SlotLemmas.{pc-next, goes-on}
 use Rattle.lg_carry.specs.Nodes.Straight.{from_to}
-use Rattle.lg_carry.proofs.OfMemory.BehindLemmas.{no-slots}
+use Rattle.lg_carry.proofs.OfMemory.AfterLemmas.{no-slots}
 
 -- a register that is no scratch register
 pub off-scratch : (x : ℕ) → a64_scratch x ≡ false → x ≢ link

@@ -123,8 +123,8 @@ record IsFitCode (most : ℕ) (is : List Instr) : Type 0 where
   good : AreGood is
   few : length is ≤ most
 
-behind-place : (p : Place) (i : Instr) → IsGoodPlace p → IsGood i → IsFitCode 6 (p.code ++ i ∷ [])
-behind-place p i g h = let l = length-append p.code (i ∷ []) in let k = g.few in record { good = good-append p.code (i ∷ []) g.code (h, tt); few = omega (arith, l, k) }
+after-place : (p : Place) (i : Instr) → IsGoodPlace p → IsGood i → IsFitCode 6 (p.code ++ i ∷ [])
+after-place p i g h = let l = length-append p.code (i ∷ []) in let k = g.few in record { good = good-append p.code (i ∷ []) g.code (h, tt); few = omega (arith, l, k) }
 
 unscaled-fits : (o : UnscaledOp) (r bytes : ℕ) (at : Address) → Fine r → is_unscaled bytes at ≡ true → IsFitCode 6 (unscaled o r at)
 unscaled-fits o r bytes (Index a v) h e =
@@ -149,7 +149,7 @@ load-fits t at n =
     let g = place-good (width t) a in
     let rd = register (operand_at n 0) in
     let f = register-fine (operand_at n 0) in
-    either-fits (is_word (width t) a) (word_load rd a) (loading t rd p) (word-fits rd (width t) a f) (behind-place p (instr.Scaled (load_row t) rd p.base p.count) g (load-row-good t rd p.base p.count f g.base g.count))
+    either-fits (is_word (width t) a) (word_load rd a) (loading t rd p) (word-fits rd (width t) a f) (after-place p (instr.Scaled (load_row t) rd p.base p.count) g (load-row-good t rd p.base p.count f g.base g.count))
 
 store-fits : (t : StoreType) (at : Addressing) (n : Node) → IsFitCode 6 (store_code t at n)
 store-fits t at n =
@@ -159,7 +159,7 @@ store-fits t at n =
     let from = operand_at n (stored_operand at) in
     let f = register-fine from in
     either-fits (is_unscaled (store_width t) a) (unscaled Stur (register from) a) (storing t (register from) p) (unscaled-fits Stur (register from) (store_width t) a f)
-    (behind-place p (instr.Scaled (store_row t) (register from) p.base p.count) g (store-row-good t (register from) p.base p.count f.0 g.base g.count))
+    (after-place p (instr.Scaled (store_row t) (register from) p.base p.count) g (store-row-good t (register from) p.base p.count f.0 g.base g.count))
 
 count-small : (t : ValueType) (k : ℕ) → k < 16 → stack_count t k < 4096
 count-small value_type.Char k few = omega (arith, few)
@@ -200,8 +200,8 @@ direction-good s h =
 address-good : (d s : ℕ) → Fine d → s < 32 → AreGood (address_code d s)
 address-good d s h k = (((h.0, k, omega arith), h.1, refl), (((h.0, h.0, omega arith, omega arith), h.1, refl), tt))
 
-behind-address : (d s : ℕ) → Fine d → Fine s → AreGood (instr.Imm Addi s s 1 false ∷ instr.Unscaled Ldur d d argument_offset ∷ [])
-behind-address d s h k =
+after-address : (d s : ℕ) → Fine d → Fine s → AreGood (instr.Imm Addi s s 1 false ∷ instr.Unscaled Ldur d d argument_offset ∷ [])
+after-address d s h k =
     let near : (negsuc 255 ≤ℤ argument_offset) × (argument_offset ≤ℤ pos 255) = (grind arith, grind arith) in
     (((k.0, k.0, omega arith), k.1, refl), (((h.0, h.0, near.0, near.1), h.1, refl), tt))
 
@@ -209,7 +209,7 @@ next-argument-fits : (d s : ℕ) → Fine d → Fine s → IsFitCode 7 (next_arg
 next-argument-fits d s h k =
     let last = instr.Imm Addi s s 1 false ∷ instr.Unscaled Ldur d d argument_offset ∷ [] in
     record {
-      good = good-append (direction_code s) (address_code d s ++ last) (direction-good s k.0) (good-append (address_code d s) last (address-good d s h k.0) (behind-address d s h k));
+      good = good-append (direction_code s) (address_code d s ++ last) (direction-good s k.0) (good-append (address_code d s) last (address-good d s h k.0) (after-address d s h k));
       few = omega arith;
     }
 

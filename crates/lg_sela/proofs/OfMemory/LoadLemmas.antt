@@ -28,7 +28,7 @@ use Rattle.lg_carry.specs.Nodes.Straight.{spoils, from_to}
 use Rattle.lg_carry.proofs.OfValues.ComputationLemmas.{pointwise}
 use Rattle.lg_carry.specs.Memory.Accesses.{Address, Base, At, Sum, Index, LiesAbove}
 use Rattle.lg_carry.specs.Memory.Loads.{IsReadable, LoadDoes, LoadsDo, HasCode}
-use Rattle.lg_carry.proofs.OfMemory.BehindLemmas.{told, seen_behind, behind-computed}
+use Rattle.lg_carry.proofs.OfMemory.AfterLemmas.{told, seen_after, after-computed}
 use Rattle.lg_sela.specs.Memory.Accesses.{load_row, place_of, loading, is_scaled, is_close, is_unscaled, unscaled, is_word, word_load, a64_load}
 use Rattle.lg_sela.proofs.OfMemory.EndLemmas.{off-scratch, access-does, span-above}
 use Rattle.lg_sela.proofs.OfMemory.PlaceLemmas.{placed, view-word}
@@ -155,8 +155,8 @@ scaled-do code trash frame t d at q a v named ok f address end readable safe lt 
     let M = a64_computer code trash in
     let x = instr.Scaled (load_row t) rd p.base p.count in
     let m = placed (width t) s.registers q.state.flags at ok f.seen.words in
-    let mid = seen_behind M p.code s in
-    behind-computed M (is-computer code trash) p.code (x ∷ []) s (with_register s.registers rd (extended_by_type t v)) s.bytes s.flags fp 0 (spoils a64_scratch []) (omega arith) m.computes
+    let mid = seen_after M p.code s in
+    after-computed M (is-computer code trash) p.code (x ∷ []) s (with_register s.registers rd (extended_by_type t v)) s.bytes s.flags fp 0 (spoils a64_scratch []) (omega arith) m.computes
     (told (a64_rows code trash) mid (with_register mid.registers rd (extended_by_type t v)) (with_register s.registers rd (extended_by_type t v)) s.bytes s.bytes mid.flags s.flags (x ∷ []) fp 0 (spoils a64_scratch [])
     (λ y free. ap (λ z. if y == rd then extended_by_type t v else z) (m.keeps y (off-scratch y free))) (λ y off. refl) m.flags
     (load-does code trash t mid rd p.base p.count a v fp (spoils a64_scratch []) (let h = register-small d in omega (arith, h)) (m.makes ∙ address) readable (s.registers 31) (m.keeps 31 (λ e. absurd (omega (arith, e)))) safe lt))

@@ -23,7 +23,7 @@ use Rattle.lg_sela_values.proofs.OfProcessor.NumberCodeLemmas.{numbers-are-loade
 use Rattle.lg_sela_values.proofs.OfProcessor.RegisterLemmas.{register-small, register-off-link}
 use Rattle.lg_carry.proofs.OfValues.ComputationLemmas.{computed-append}
 use Rattle.lg_carry.specs.Memory.Accesses.{Address, Base, At, Sum, Index, address_word, IsAddress}
-use Rattle.lg_carry.proofs.OfMemory.BehindLemmas.{all-compute-append}
+use Rattle.lg_carry.proofs.OfMemory.AfterLemmas.{all-compute-append}
 use Rattle.lg_sela.specs.Memory.Accesses.{Place, at_link, is_scaled, is_small, sum_code, is_close, is_counted, place_of}
 
 -- the code computes the address into the link alone, or none, and keeps the flags; an access has this many bytes
@@ -34,8 +34,8 @@ pub record IsPlaced (bytes : ℕ) (p : Place) (w : ℕ → ℕ) (f : Flags) (a :
   pub makes : add_words ((computed p.code (holding w (nzcv f))).registers p.base) (p.count * bytes) ≡ a
 
 -- ---- words
-pub none-behind : (bytes a : ℕ) → a < 2 ^ 64 → add_words a (0 * bytes) ≡ a
-none-behind bytes a h = ap (λ z. add_words a z) (let z : 0 * bytes ≡ 0 = omega arith in z) ∙ (let z : add_words a 0 ≡ a = omega (arith, h) in z)
+pub none-after : (bytes a : ℕ) → a < 2 ^ 64 → add_words a (0 * bytes) ≡ a
+none-after bytes a h = ap (λ z. add_words a z) (let z : 0 * bytes ≡ 0 = omega arith in z) ∙ (let z : add_words a 0 ≡ a = omega (arith, h) in z)
 
 sum-small : (b c : ℕ) → add_words b c < 2 ^ 64
 sum-small b c = omega arith
@@ -73,7 +73,7 @@ module _ (bytes : ℕ) (w : ℕ → ℕ) (f : Flags) where
     computes = h;
     keeps = λ x ne. ap (λ u. u.registers x) e ∙ put-other w link v x ne;
     flags = ap (λ u. u.flags) e;
-    makes = ap (λ u. add_words (u.registers link) (0 * bytes)) e ∙ ap (λ z. add_words z (0 * bytes)) (put-same w link v) ∙ none-behind bytes v small;
+    makes = ap (λ u. add_words (u.registers link) (0 * bytes)) e ∙ ap (λ z. add_words z (0 * bytes)) (put-same w link v) ∙ none-after bytes v small;
   }
 
   -- a sum of two registers into it
@@ -118,7 +118,7 @@ module _ (bytes : ℕ) (w : ℕ → ℕ) (f : Flags) where
   indexed-placed a v small word false far = sum-placed a v small word
 
   pub placed : (at : Address) → IsAddress at → ((x : ℕ) → w x < 2 ^ 64) → IsPlaced bytes (place_of bytes at) w f (address_word Aarch64 w at)
-  placed (Base a) ok words = record { computes = refl; keeps = λ x ne. refl; flags = refl; makes = none-behind bytes (w (register_of Aarch64 a)) (words (register_of Aarch64 a)) }
+  placed (Base a) ok words = record { computes = refl; keeps = λ x ne. refl; flags = refl; makes = none-after bytes (w (register_of Aarch64 a)) (words (register_of Aarch64 a)) }
   placed (At v) ok words = number-placed v ok
   placed (Sum a b) ok words =
       let ra = register_of Aarch64 a in

@@ -33,7 +33,7 @@ use Rattle.lg_carry.specs.Nodes.Stretches.{HasFrame}
 use Rattle.lg_carry.proofs.OfValues.ComputationLemmas.{computations-do}
 use Rattle.lg_carry.specs.Memory.Pushes.{IsPassed, PushesDo, HasPushCode}
 use Rattle.lg_carry.specs.Memory.Stores.{IsWritable}
-use Rattle.lg_carry.proofs.OfMemory.BehindLemmas.{told, seen_behind, behind-computed}
+use Rattle.lg_carry.proofs.OfMemory.AfterLemmas.{told, seen_after, after-computed}
 use Rattle.lg_carry.proofs.OfMemory.ReadLemmas.{same-some, host-small}
 use Rattle.lg_sela_values.specs.declared.items.Item.{Item}
 use Rattle.lg_sela_values.specs.Items.{settled, bytes_in}
@@ -68,7 +68,7 @@ module _ (code : List ℕ) (trash : ℕ) (q : Run CpuState) (fp : ℕ) where
 
   puts-do : (is : List Instr) (rd v : ℕ) → Puts is w q.state.flags rd v → Leaves (with_register w rd v) s.bytes is
   puts-do is rd v p =
-      let mid = seen_behind (a64_computer code trash) is s in
+      let mid = seen_after (a64_computer code trash) is s in
       told (a64_rows code trash) s mid.registers (with_register w rd v) s.bytes s.bytes mid.flags s.flags is fp 0 (spoils a64_scratch [])
       (λ y free. ap (λ u. u.registers y) p.puts) (λ y off. refl) (ap (λ u. u.flags) p.puts)
       (computations-do (a64_computer code trash) (is-computer code trash) is s fp 0 (spoils a64_scratch []) p.computes)
@@ -103,9 +103,9 @@ module _ (code : List ℕ) (trash : ℕ) (q : Run CpuState) (fp : ℕ) where
     stores-do pre from small p =
         let M = a64_computer code trash in
         let x = instr.Scaled Str64 from 31 (j - 8) in
-        let mid = seen_behind M pre s in
+        let mid = seen_after M pre s in
         let B = stored s.bytes a 8 v in
-        behind-computed M (is-computer code trash) pre (x ∷ []) s w B s.flags fp 0 (spoils a64_scratch []) (omega arith) p.computes
+        after-computed M (is-computer code trash) pre (x ∷ []) s w B s.flags fp 0 (spoils a64_scratch []) (omega arith) p.computes
         (told (a64_rows code trash) mid mid.registers w B B mid.flags s.flags (x ∷ []) fp 0 (spoils a64_scratch []) (λ y free. p.keeps y (off-scratch y free)) (λ y off. refl) p.flags
         (store-does code trash store_type.Long mid 31 from (j - 8) a v fp (spoils a64_scratch []) small (ap (λ z. add_words z ((j - 8) * 8)) (p.keeps 31 (λ z. absurd (omega (arith, z)))) ∙ address) p.holds writable (w 31) (p.keeps 31 (λ z. absurd (omega (arith, z)))) safe))
 
@@ -147,17 +147,17 @@ into-some to from rd (operand.Host name) within slots words =
 into-some to from rd (operand.Label l) within slots words = omega arith
 into-some to from rd (operand.Slot k) within slots words = absurd (slots k refl)
 
-behind-some : (to : ℕ → ℕ) (from : ℕ) (xs : List Item) (j : ℕ) → 0 < length (settled to from (xs ++ stack_push j link ∷ []))
-behind-some to from xs j =
+after-some : (to : ℕ → ℕ) (from : ℕ) (xs : List Item) (j : ℕ) → 0 < length (settled to from (xs ++ stack_push j link ∷ []))
+after-some to from xs j =
     let e = ap length (settled-append to from xs (stack_push j link ∷ [])) in
     let l = length-append (settled to from xs) (settled to (from + bytes_in xs) (stack_push j link ∷ [])) in omega (arith, e, l)
 
 onto-some : (to : ℕ → ℕ) (from j : ℕ) (x : Operand) → 0 < length (settled to from (onto_stack j x))
 onto-some to from j (operand.Reg r) = omega arith
-onto-some to from j (operand.Number v) = behind-some to from (into link (operand.Number v)) j
-onto-some to from j (operand.Host name) = behind-some to from (into link (operand.Host name)) j
-onto-some to from j (operand.Label l) = behind-some to from (into link (operand.Label l)) j
-onto-some to from j (operand.Slot k) = behind-some to from (into link (operand.Slot k)) j
+onto-some to from j (operand.Number v) = after-some to from (into link (operand.Number v)) j
+onto-some to from j (operand.Host name) = after-some to from (into link (operand.Host name)) j
+onto-some to from j (operand.Label l) = after-some to from (into link (operand.Label l)) j
+onto-some to from j (operand.Slot k) = after-some to from (into link (operand.Slot k)) j
 
 pub has-push-code : (code : List ℕ) (trash : ℕ) → HasPushCode (a64_rows code trash) a64_push
 has-push-code code trash frame to from j x few slots words = let long = spellings-long (settled to from (push_items j x)) in let n = by (nat_lt j 8) refl in omega (arith, long, n)

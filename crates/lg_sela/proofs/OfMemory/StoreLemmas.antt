@@ -28,7 +28,7 @@ use Rattle.lg_carry.proofs.OfNodes.ByteLemmas.{stored-same}
 use Rattle.lg_carry.proofs.OfValues.ComputationLemmas.{pointwise}
 use Rattle.lg_carry.specs.Memory.Accesses.{Address, Base, At, Sum, Index, LiesAbove}
 use Rattle.lg_carry.specs.Memory.Stores.{IsWritable, StoreDoes, StoresDo, HasStoreCode}
-use Rattle.lg_carry.proofs.OfMemory.BehindLemmas.{told, seen_behind, behind-computed}
+use Rattle.lg_carry.proofs.OfMemory.AfterLemmas.{told, seen_after, after-computed}
 use Rattle.lg_sela.specs.Memory.Accesses.{store_row, place_of, storing, is_unscaled, unscaled, a64_store}
 use Rattle.lg_sela.proofs.OfMemory.EndLemmas.{off-scratch, access-does, span-above}
 use Rattle.lg_sela.proofs.OfMemory.LoadLemmas.{never, no-unscaled, unscaled-some}
@@ -116,9 +116,9 @@ scaled-do code trash frame t at b q a ok f address end writable safe off =
     let M = a64_computer code trash in
     let x = instr.Scaled (store_row t) rb p.base p.count in
     let m = placed (store_width t) s.registers q.state.flags at ok f.seen.words in
-    let mid = seen_behind M p.code s in
+    let mid = seen_after M p.code s in
     let B = stored s.bytes a (store_width t) (s.registers rb) in
-    behind-computed M (is-computer code trash) p.code (x ∷ []) s s.registers B s.flags fp 0 (spoils a64_scratch []) (omega arith) m.computes
+    after-computed M (is-computer code trash) p.code (x ∷ []) s s.registers B s.flags fp 0 (spoils a64_scratch []) (omega arith) m.computes
     (told (a64_rows code trash) mid mid.registers s.registers B B mid.flags s.flags (x ∷ []) fp 0 (spoils a64_scratch [])
     (λ y free. m.keeps y (off-scratch y free)) (λ y off. refl) m.flags
     (store-does code trash t mid p.base rb p.count a (s.registers rb) fp (spoils a64_scratch []) (let h = register-small b in omega (arith, h)) (m.makes ∙ address) (m.keeps rb (register-off-link b)) writable (s.registers 31) (m.keeps 31 (λ e. absurd (omega (arith, e)))) safe))

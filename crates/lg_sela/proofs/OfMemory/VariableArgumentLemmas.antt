@@ -35,7 +35,7 @@ use Rattle.lg_carry.proofs.OfValues.ComputationLemmas.{pointwise}
 use Rattle.lg_carry.proofs.OfValues.TwoResultLemmas.{registers-apart}
 use Rattle.lg_carry.specs.Memory.Loads.{IsReadable}
 use Rattle.lg_carry.specs.Memory.VariableArguments.{NextArgumentsDo, HasNextArgumentCode}
-use Rattle.lg_carry.proofs.OfMemory.BehindLemmas.{told, seen_behind, behind-computed}
+use Rattle.lg_carry.proofs.OfMemory.AfterLemmas.{told, seen_after, after-computed}
 use Rattle.lg_sela.specs.Memory.VariableArgumentCode.{direction_code, address_code, argument_offset, next_argument_load, a64_next_argument}
 use Rattle.lg_sela.proofs.OfMemory.EndLemmas.{off-scratch, access-does, span-above}
 
@@ -218,17 +218,17 @@ apart-registers d s nd ns ne = record {
 module _ (code : List ℕ) (trash : ℕ) (s : Seen) (rd rs k a v fp : ℕ) (x : Apart rd rs) (few : k < 16) (holds : s.registers rs ≡ k) (at : add_words (above (s.registers 29) k) (word_of argument_offset) ≡ a)
     (readable : IsReadable s fp a 8 v) (safe : LiesAbove Aarch64 (s.registers 31) a 8) where
   abbrev mid : Seen
-  mid = seen_behind (a64_computer code trash) (computing rd rs) s
+  mid = seen_after (a64_computer code trash) (computing rd rs) s
 
   stack-kept : mid.registers 31 ≡ s.registers 31
   stack-kept = off-both s.registers s.flags rd rs k x holds 31 (λ e. let h = x.d_small in absurd (omega (arith, e, h))) (λ e. let h = x.s_small in absurd (omega (arith, e, h))) (λ e. absurd (omega (arith, e)))
 
-  load-behind : Does (a64_rows code trash) (from_to s (with_register (with_register s.registers rd v) rs (k + 1)) s.bytes mid.flags) (next_argument_load rd rs) fp 0 (spoils a64_scratch [])
-  load-behind =
+  load-after : Does (a64_rows code trash) (from_to s (with_register (with_register s.registers rd v) rs (k + 1)) s.bytes mid.flags) (next_argument_load rd rs) fp 0 (spoils a64_scratch [])
+  load-after =
       let l = Unscaled Ldur rd rd argument_offset in
       let to = with_register (with_register s.registers rd v) rs (k + 1) in
       let small : rd < 31 = (let h = x.d_small in omega (arith, h)) in
-      behind-computed (a64_computer code trash) (is-computer code trash) (computing rd rs) (l ∷ []) s to s.bytes mid.flags fp 0 (spoils a64_scratch []) (omega arith) refl
+      after-computed (a64_computer code trash) (is-computer code trash) (computing rd rs) (l ∷ []) s to s.bytes mid.flags fp 0 (spoils a64_scratch []) (omega arith) refl
       (told (a64_rows code trash) mid (with_register mid.registers rd v) to s.bytes s.bytes mid.flags mid.flags (l ∷ []) fp 0 (spoils a64_scratch [])
       (λ r free. left s.registers s.flags rd rs k x holds v (k + 1) r (next-small k few) (off-scratch r free)) (λ r off. refl) refl
       (load-does code trash mid rd a v fp (spoils a64_scratch []) small
@@ -242,8 +242,8 @@ next-arguments-do code trash frame d s q k a v nd ns ne few f holds at even read
     let low : 272 ≤ sp = (let l = f.large in omega (arith, l)) in
     let high : sp ≤ 0x40000000 = (let h = f.high in omega (arith, h)) in
     record {
-      flags = (seen_behind (a64_computer code trash) (computing rd rs) (a64_seen q)).flags;
-      does = load-behind code trash (a64_seen q) rd rs k a v (q.state.registers 29) (apart-registers d s nd ns ne) few holds
+      flags = (seen_after (a64_computer code trash) (computing rd rs) (a64_seen q)).flags;
+      does = load-after code trash (a64_seen q) rd rs k a v (q.state.registers 29) (apart-registers d s nd ns ne) few holds
           (ap (λ p. add_words (above p k) (word_of argument_offset)) f.pointer ∙ leads sp k few low high ∙ at) readable safe;
     }
 

@@ -22,7 +22,7 @@ use Rattle.lg_rv.specs.declared.instruction.Instr.TheVariants as instr
 use Rattle.lg_rv.specs.declared.instruction.ImmOp.TheVariants.{Jalr}
 use Rattle.lg_cpu.specs.Laws.{AreBytes}
 use Rattle.lg_cpu.specs.Steps.{Run, Effect, after, arrived, faults, status_of}
-use Rattle.lg_cpu.specs.HostSteps.{put, behind_call, answer_at, returned}
+use Rattle.lg_cpu.specs.HostSteps.{put, after_call, answer_at, returned}
 use Rattle.lg_cpu.specs.States.{CpuState}
 use Rattle.lg_cpu.specs.RvStep.{read, goes, sets, jump_to, act, effect, effect_at, host_effect}
 use Rattle.lg_cpu.proofs.SoundLemmas.{stays-sound}
@@ -72,11 +72,11 @@ module _ (code : List ℕ) (trash : ℕ) (small : length code ≤ most_code) (by
       let does : act jump q.state ≡ e =
       ap (λ p. act (instr.Jal 1 (pos to -ℤ pos p)) q.state) (sym at)
       ∙ jumps-there q.state 1 to (omega (arith, high, at)) (let h = there.high in omega (arith, h)) (aligned to there.place) in
-      let behind-it : ℕ = behind (rv_rows code trash) from (call_code Near from to) in
-      let pass : PassesIn (rv_processor code trash) false from behind-it 1 q (after q e) =
-      subst (λ z. PassesIn (rv_processor code trash) false from behind-it 1 q (after q z)) does
+      let after-it : ℕ = behind (rv_rows code trash) from (call_code Near from to) in
+      let pass : PassesIn (rv_processor code trash) false from after-it 1 q (after q e) =
+      subst (λ z. PassesIn (rv_processor code trash) false from after-it 1 q (after q z)) does
       (one-passed false code trash small bytes word from [] jump [] q k runs (no-width _ _) (at ∙ omega arith)) in
-      arrived-with code trash from behind-it behind-it to 1 q (after q e) pass (one-sinks (rv_processor code trash) from behind-it q (after q e) pass)
+      arrived-with code trash from after-it after-it to 1 q (after q e) pass (one-sinks (rv_processor code trash) from after-it q (after q e) pass)
       (omega arith) (omega arith) (runs-there to there.low) refl
       (put-same q.state.registers 1 _ ∙ pc-next q.state.pc (omega (arith, high, at)) ∙ omega (arith, at))
       (λ x ne. put-other q.state.registers 1 _ x ne) refl refl
@@ -85,8 +85,8 @@ module _ (code : List ℕ) (trash : ℕ) (small : length code ≤ most_code) (by
   far-calls-lead frame from to q f k there runs at =
       let reads : (v : ℕ) → read (put q.state.registers 1 v) 1 ≡ v = λ v. put-same q.state.registers 1 v in
       let end : Run CpuState = far-end code trash small bytes word 1 1 from to q k there runs at reads in
-      let behind-it : ℕ = behind (rv_rows code trash) from (call_code Far from to) in
-      arrived-with code trash from behind-it behind-it to 2 q end
+      let after-it : ℕ = behind (rv_rows code trash) from (call_code Far from to) in
+      arrived-with code trash from after-it after-it to 2 q end
       (far-passed code trash small bytes word 1 1 from to q k there runs at reads)
       (far-sunk code trash small bytes word 1 1 from to q k there runs at reads)
       (omega arith) (omega arith) (runs-there to there.low) refl
@@ -109,11 +109,11 @@ module _ (code : List ℕ) (trash : ℕ) (small : length code ≤ most_code) (by
       let e : Effect CpuState = goes to (put q.state.registers 1 (add_words q.state.pc 4)) q.state.bytes q.state.mark in
       let high = stands-high false code trash small bytes word from jump [] k in
       let does : act jump q.state ≡ e = lands-there q.state 1 (register_of Riscv64 a) to (read-of q.state.registers a ∙ is) near even in
-      let behind-it : ℕ = behind (rv_rows code trash) from (register_call_code frame a) in
-      let pass : PassesIn (rv_processor code trash) false from behind-it 1 q (after q e) =
-      subst (λ z. PassesIn (rv_processor code trash) false from behind-it 1 q (after q z)) does
+      let after-it : ℕ = behind (rv_rows code trash) from (register_call_code frame a) in
+      let pass : PassesIn (rv_processor code trash) false from after-it 1 q (after q e) =
+      subst (λ z. PassesIn (rv_processor code trash) false from after-it 1 q (after q z)) does
       (one-passed false code trash small bytes word from [] jump [] q k runs (no-width _ _) (at ∙ omega arith)) in
-      arrived-with code trash from behind-it behind-it to 1 q (after q e) pass (one-sinks (rv_processor code trash) from behind-it q (after q e) pass)
+      arrived-with code trash from after-it after-it to 1 q (after q e) pass (one-sinks (rv_processor code trash) from after-it q (after q e) pass)
       (omega arith) (omega arith) there refl (put-same q.state.registers 1 _ ∙ pc-next q.state.pc (omega (arith, high, at)) ∙ omega (arith, at))
       (λ x ne. put-other q.state.registers 1 _ x ne) refl refl
 
@@ -143,9 +143,9 @@ module _ (code : List ℕ) (trash : ℕ) (small : length code ≤ most_code) (by
       let chain : Chain act acts_above (host_code name) q u = chain-more act acts_above _ _ q u (sets q.state 1 v1) runs (no-width _ _) refl
       (chain-more act acts_above _ _ q1 u e runs1 (no-width _ _) (ap (jump_to q1.state 1) (entry-address name) ∙ ap (λ b. if b then e else faults q1.state Align) (ap (λ n. n == 0) (entry-aligned name)))
       (chain-end act acts_above u)) in
-      let behind-it : ℕ = behind (rv_rows code trash) from (host_code name) in record {
+      let after-it : ℕ = behind (rv_rows code trash) from (host_code name) in record {
         ready_is = refl;
-        arrival = arrived-with code trash from behind-it behind-it a 2 q u
+        arrival = arrived-with code trash from after-it after-it a 2 q u
             (all-passed false code trash small bytes word from (host_code name) q u k at (refl, tt) chain)
             (still-sunk (rv_rows code trash) IsInstr (are-rows code trash small bytes word) from (host_code name) q k at (refl, tt) chain.through)
             (omega arith) (omega arith) (entry-runs name) refl
@@ -155,7 +155,7 @@ module _ (code : List ℕ) (trash : ℕ) (small : length code ≤ most_code) (by
 
   -- ---- the step of a host function
   entered : (s : CpuState) (name : HostName) → host_by_address s.pc ≡ Some name → s.registers 2 % 16 ≡ 0
-      → effect code trash s ≡ returned (answer_at Riscv64 name (s.registers 2) s) (s.registers 1) (behind_call Riscv64 32 s.registers trash) NoFlags s
+      → effect code trash s ≡ returned (answer_at Riscv64 name (s.registers 2) s) (s.registers 1) (after_call Riscv64 32 s.registers trash) NoFlags s
   entered s name is whole =
       let even : (s.registers 2 % 16 == 0) ≡ true = ap (λ n. n == 0) whole in
       ap (λ o. effect_at o code trash s) is

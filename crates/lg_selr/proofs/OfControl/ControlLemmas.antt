@@ -46,7 +46,7 @@ use Rattle.lg_selr.specs.Control.Prologs.{prolog_code}
 use Rattle.lg_selr.specs.Control.Returns.{return_code, result_code}
 use Rattle.lg_selr.specs.Control.SumBranches.{sum_code, staying}
 use Rattle.lg_selr.specs.Control.Targets.{rv_control}
-use Rattle.lg_selr.specs.Control.TwoWays.{leads_unless, branch_behind, second_code}
+use Rattle.lg_selr.specs.Control.TwoWays.{leads_unless, branch_after, second_code}
 use Rattle.lg_selr.proofs.OfControl.TargetLemmas.{is-target, has-places}
 
 -- ---- the instructions of items
@@ -58,7 +58,7 @@ leads-settled Far to at o a b l = refl
 
 -- it is after two lists of instructions
 pub unless-settled : (r : Reach) (to : ℕ → ℕ) (at : ℕ) (xs ys : List Instr) (o : BranchOp) (a b : ℕ) (l : Label)
-    → settled to at (ones xs ++ (ones ys ++ jump_unless_items r o a b l)) ≡ branch_behind r (xs ++ ys) o a b at (to l.0)
+    → settled to at (ones xs ++ (ones ys ++ jump_unless_items r o a b l)) ≡ branch_after r (xs ++ ys) o a b at (to l.0)
 unless-settled r to at xs ys o a b l =
     let rest = jump_unless_items r o a b l in
     let front = xs ++ ys in

@@ -43,7 +43,7 @@ use Rattle.lg_selr_values.specs.Items.{distance}
 use Rattle.lg_selr.specs.Control.Branches.{turned}
 use Rattle.lg_selr.specs.Control.ControlItems.{second_register}
 use Rattle.lg_selr_values.specs.Processor.RvComputers.{rv_scratch}
-use Rattle.lg_selr.specs.Control.TwoWays.{leads_unless, branch_behind, second_code}
+use Rattle.lg_selr.specs.Control.TwoWays.{leads_unless, branch_after, second_code}
 use Rattle.lg_sel.proofs.OfControl.ChainLemmas.{straight-block, runs-there}
 use Rattle.lg_selr.proofs.OfControl.ComputedLemmas.{all-straight, same-words}
 use Rattle.lg_selr.proofs.OfControl.StretchLemmas.{spelled-size}
@@ -375,14 +375,14 @@ module _ (code : List ℕ) (trash : ℕ) (small : length code ≤ most_code) (by
 
 -- ---- whatever the reach
 pub two-ways : (reach : Reach) (code : List ℕ) (trash : ℕ) → length code ≤ most_code → AreBytes code → trash < 2 ^ 64
-    → (front : List Instr) (o : BranchOp) (a b from to : ℕ) (q : Run CpuState) → StandsAt (rv_rows code trash) false IsInstr from (branch_behind reach front o a b from to)
+    → (front : List Instr) (o : BranchOp) (a b from to : ℕ) (q : Run CpuState) → StandsAt (rv_rows code trash) false IsInstr from (branch_after reach front o a b from to)
     → all_compute front ≡ true → length front ≤ 60 → status_of q.progress ≡ Running → q.state.pc ≡ from → (goes-there : Bool)
     → (goes-there ≡ true → IsThere (rv_rows code trash).is_place to)
-    → IsThere (rv_rows code trash).is_place (behind (rv_rows code trash) from (branch_behind reach front o a b from to))
+    → IsThere (rv_rows code trash).is_place (behind (rv_rows code trash) from (branch_after reach front o a b from to))
     → is_taken o (read (computed front q.state.registers) a) (read (computed front q.state.registers) b) ≡ not goes-there
     → (W : ℕ → ℕ) → ((z : ℕ) → z ≢ 1 → z ≢ 31 → computed front q.state.registers z ≡ W z)
-    → Way (rv_processor code trash) rv_scratch from (behind (rv_rows code trash) from (branch_behind reach front o a b from to)) W
-    (if goes-there then to else behind (rv_rows code trash) from (branch_behind reach front o a b from to)) q
+    → Way (rv_processor code trash) rv_scratch from (behind (rv_rows code trash) from (branch_after reach front o a b from to)) W
+    (if goes-there then to else behind (rv_rows code trash) from (branch_after reach front o a b from to)) q
 two-ways Short code trash small bytes word front o a b from to q k all few runs at goes-there there next taken W kept =
     short-ways code trash small bytes word front (leads_unless Short o a b (from + 4 * length front) to) o a b from to q k all few runs at goes-there there next taken W kept refl
 two-ways Near code trash small bytes word front o a b from to q k all few runs at goes-there there next taken W kept =

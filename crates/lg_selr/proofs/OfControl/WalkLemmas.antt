@@ -90,12 +90,12 @@ module _ (code : List ℕ) (trash : ℕ) (small : length code ≤ most_code) (by
   pub far-next : q1.state.pc ≡ from + 4
   far-next = pc-next q.state.pc (omega (arith, high, at)) ∙ omega (arith, at)
 
-  pub far-behind : add_words q1.state.pc 4 ≡ behind (rv_rows code trash) from (far_jump rd base from to)
-  far-behind = pc-next q1.state.pc (omega (arith, high, far-next)) ∙ omega (arith, far-next)
+  pub far-after : add_words q1.state.pc 4 ≡ behind (rv_rows code trash) from (far_jump rd base from to)
+  far-after = pc-next q1.state.pc (omega (arith, high, far-next)) ∙ omega (arith, far-next)
 
   -- nothing but the two registers changes
   pub far-link : (after q1 e).state.registers rd ≡ behind (rv_rows code trash) from (far_jump rd base from to)
-  far-link = put-same q1.state.registers rd (add_words q1.state.pc 4) ∙ far-behind
+  far-link = put-same q1.state.registers rd (add_words q1.state.pc 4) ∙ far-after
 
   pub far-other : (x : ℕ) → x ≢ rd → x ≢ base → (after q1 e).state.registers x ≡ q.state.registers x
   far-other x ne other = put-other q1.state.registers rd (add_words q1.state.pc 4) x ne ∙ put-other q.state.registers base v x other

@@ -32,8 +32,8 @@ pub record IsThere (s : Seen) (sp fp x : ℕ) : Type 0 where
 first-byte : (b n v : ℕ) → b < 256 → b + 256 * n ≡ v → (v % 256 ≡ b) × (v / 256 ≡ n)
 first-byte b n v h e = (omega (arith, h, e), omega (arith, h, e))
 
-byte-behind : (v j : ℕ) → byte_of v (suc j) ≡ byte_of (v / 256) j
-byte-behind v j = ap (λ n. v / n % 256) (pow-succ' 256 j) ∙ ap (λ n. n % 256) (sym (div-div-eq-div-mul v 256 (256 ^ j)))
+byte-after : (v j : ℕ) → byte_of v (suc j) ≡ byte_of (v / 256) j
+byte-after v j = ap (λ n. v / n % 256) (pow-succ' 256 j) ∙ ap (λ n. n % 256) (sym (div-div-eq-div-mul v 256 (256 ^ j)))
 
 byte-first : (v : ℕ) → byte_of v 0 ≡ v % 256
 byte-first v = omega arith
@@ -45,7 +45,7 @@ number-bytes m small a (suc w) v zero lt e =
     ap m (let z : a + 0 ≡ a = omega arith in z) ∙ sym p.0 ∙ sym (byte-first v)
 number-bytes m small a (suc w) v (suc j) lt e =
     let p = first-byte (m a) (number_at m (a + 1) w) v (small a) (sym (number_at-step m a (suc w) (a + 1) w refl refl) ∙ e) in
-    ap m (let z : a + suc j ≡ a + 1 + j = omega arith in z) ∙ number-bytes m small (a + 1) w (v / 256) j (omega (arith, lt)) (sym p.1) ∙ sym (byte-behind v j)
+    ap m (let z : a + suc j ≡ a + 1 + j = omega arith in z) ∙ number-bytes m small (a + 1) w (v / 256) j (omega (arith, lt)) (sym p.1) ∙ sym (byte-after v j)
 
 some-is : (o : Option ℕ) (b : ℕ) → is_some o ≡ true → unwrap_or o 0 ≡ b → o ≡ Some b
 some-is None b t e = cc

@@ -23,7 +23,7 @@ use Rattle.lg_selr_values.proofs.OfProcessor.SlotLemmas.{pc-next, goes-on}
 use Rattle.lg_carry.specs.Nodes.Straight.{from_to}
 use Rattle.lg_carry.specs.Values.Computers.{Held}
 use Rattle.lg_carry.specs.Values.Computers as computer
-use Rattle.lg_carry.proofs.OfMemory.BehindLemmas.{no-slots, behind-computed}
+use Rattle.lg_carry.proofs.OfMemory.AfterLemmas.{no-slots, after-computed}
 
 -- from a state an instruction leaves these registers and these bytes, but for the slots, and the next one follows
 pub record Accesses (x : Instr) (q : CpuState) (W : ℕ → ℕ) (M : ℕ → Option ℕ) (fp : ℕ) : Type 0 where
@@ -79,10 +79,10 @@ flags-kept [] w = refl
 flags-kept (i ∷ is) w = flags-kept is (held_by i w)
 
 -- they change the registers alone
-pub behind-registers : (code : List ℕ) (trash : ℕ) (xs ys : List Instr) (s : Seen) (W : ℕ → ℕ) (M : ℕ → Option ℕ) (fp n : ℕ) (T : ℕ → Bool) → n ≤ 5 → all_compute xs ≡ true
+pub after-registers : (code : List ℕ) (trash : ℕ) (xs ys : List Instr) (s : Seen) (W : ℕ → ℕ) (M : ℕ → Option ℕ) (fp n : ℕ) (T : ℕ → Bool) → n ≤ 5 → all_compute xs ≡ true
     → Does (rv_rows code trash) (from_to (record s { registers = computed xs s.registers }) W M s.flags) ys fp n T → Does (rv_rows code trash) (from_to s W M s.flags) (xs ++ ys) fp n T
-behind-registers code trash xs ys s W M fp n T most h does =
+after-registers code trash xs ys s W M fp n T most h does =
     let w : Held = record { registers = s.registers; flags = s.flags } in
     let same : computer.computed held_by xs w ≡ record { registers = computed xs s.registers; flags = s.flags } = λ i. record { registers = registers-computed xs w i; flags = flags-kept xs w i } in
-    behind-computed (rv_computer code trash) (is-computer code trash) xs ys s W M s.flags fp n T most h
+    after-computed (rv_computer code trash) (is-computer code trash) xs ys s W M s.flags fp n T most h
     (subst (λ (u : Held). Does (rv_rows code trash) (from_to (record s { registers = u.registers; flags = u.flags }) W M s.flags) ys fp n T) (sym same) does)

@@ -35,7 +35,7 @@ use Rattle.lg_carry.specs.Nodes.Straight.{from_to}
 use Rattle.lg_carry.specs.Memory.Crossings.{CrossesCode, LeadsTo, Skips}
 use Rattle.lg_carry.proofs.OfMemory.CrossingLemmas.{fork-crosses}
 use Rattle.lg_selr.specs.Memory.Accesses.{Place, tester, fork}
-use Rattle.lg_selr.proofs.OfMemory.EndLemmas.{behind-registers}
+use Rattle.lg_selr.proofs.OfMemory.EndLemmas.{after-registers}
 use Rattle.lg_selr.proofs.OfMemory.PlaceLemmas.{IsWidth, IsPlaced, masked, sum-even, read-some}
 
 -- ---- a branch
@@ -192,5 +192,5 @@ module _ (code : List ℕ) (trash : ℕ) (rows : AreRows (rv_rows code trash) Is
       first =
           subst (λ v. Does (rv_rows code trash) (from_to s v s.bytes s.flags) front fp 5 (λ r. false)) front-is
           (subst (λ is. Does (rv_rows code trash) (from_to s (computed front s.registers) s.bytes s.flags) is fp 5 (λ r. false)) (append-nil front)
-          (behind-registers code trash front [] s (computed front s.registers) s.bytes fp 5 (λ r. false) (omega arith) front-computes
+          (after-registers code trash front [] s (computed front s.registers) s.bytes fp 5 (λ r. false) (omega arith) front-computes
           (computations-do (rv_computer code trash) (is-computer code trash) [] (record s { registers = computed front s.registers }) fp 5 (λ r. false) refl)))

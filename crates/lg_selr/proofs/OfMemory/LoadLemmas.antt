@@ -44,12 +44,12 @@ use Rattle.lg_carry.specs.Memory.Loads.{IsReadable, LoadCrosses}
 use Rattle.lg_carry.specs.Memory.Crossings.{CrossesCode}
 use Rattle.lg_carry.proofs.OfMemory.CrossingLemmas.{straight-crosses}
 use Rattle.lg_carry.proofs.OfMemory.ReadLemmas.{or-true}
-use Rattle.lg_carry.proofs.OfMemory.BehindLemmas.{told, in-a-row}
+use Rattle.lg_carry.proofs.OfMemory.AfterLemmas.{told, in-a-row}
 use Rattle.lg_carry.proofs.OfMemory.LoadLemmas.{some-wide}
 use Rattle.lg_selr.specs.Memory.Accesses.{Place, load_row, high_row, is_frame, is_whole, place_of, lower_bytes, tester, fork, slow_load, loading}
 use Rattle.lg_selr.proofs.OfMemory.ForkLemmas.{straight-block, computing-straight, tester-free, tested, base-kept, forks, tester-no-stack}
 use Rattle.lg_selr.proofs.OfMemory.ByteLemmas.{IsByte, readable-byte, loaded-one}
-use Rattle.lg_selr.proofs.OfMemory.EndLemmas.{access-keeps, behind-registers, span-above, one-above}
+use Rattle.lg_selr.proofs.OfMemory.EndLemmas.{access-keeps, after-registers, span-above, one-above}
 use Rattle.lg_selr.proofs.OfMemory.JoinLemmas.{joined, high_type, joined-typed}
 use Rattle.lg_selr.proofs.OfMemory.PlaceLemmas.{IsPlaced, off-scratch, load-width, placed, whole-even, frame-whole, read-some}
 
@@ -142,12 +142,12 @@ module _ (code : List ℕ) (trash : ℕ) (fp n : ℕ) (most : n ≤ 5) where
       (λ q r bs y on. refl)
 
   -- after an instruction that does just so
-  behind-load : (x : Instr) (s : Seen) (V W : ℕ → ℕ) (ys : List Instr) (T : ℕ → Bool) → Does (rv_rows code trash) (from_to s V s.bytes s.flags) (x ∷ []) fp 5 (λ r. false)
+  after-load : (x : Instr) (s : Seen) (V W : ℕ → ℕ) (ys : List Instr) (T : ℕ → Bool) → Does (rv_rows code trash) (from_to s V s.bytes s.flags) (x ∷ []) fp 5 (λ r. false)
       → Goes (record s { registers = V }) W s.bytes ys T → Goes s W s.bytes (x ∷ ys) T
-  behind-load x s V W ys T first second = in-a-row (rv_rows code trash) s V W s.bytes s.bytes s.flags s.flags (x ∷ []) ys fp n T most first second
+  after-load x s V W ys T first second = in-a-row (rv_rows code trash) s V W s.bytes s.bytes s.flags s.flags (x ∷ []) ys fp n T most first second
 
-  behind-computing : (x : Instr) (s : Seen) (W : ℕ → ℕ) (ys : List Instr) (T : ℕ → Bool) → all_compute (x ∷ []) ≡ true → Goes (record s { registers = computed_by x s.registers }) W s.bytes ys T → Goes s W s.bytes (x ∷ ys) T
-  behind-computing x s W ys T h second = behind-registers code trash (x ∷ []) ys s W s.bytes fp n T most h second
+  after-computing : (x : Instr) (s : Seen) (W : ℕ → ℕ) (ys : List Instr) (T : ℕ → Bool) → all_compute (x ∷ []) ≡ true → Goes (record s { registers = computed_by x s.registers }) W s.bytes ys T → Goes s W s.bytes (x ∷ ys) T
+  after-computing x s W ys T h second = after-registers code trash (x ∷ []) ys s W s.bytes fp n T most h second
 
   nothing-left : (s : Seen) (W : ℕ → ℕ) (T : ℕ → Bool) → ((y : ℕ) → s.registers y ≡ W y) → Goes s W s.bytes [] T
   nothing-left s W T same = told (rv_rows code trash) s s.registers W s.bytes s.bytes s.flags s.flags [] fp n T (λ y free. same y) (λ y off. refl) refl (computations-do (rv_computer code trash) (is-computer code trash) [] s fp n T refl)
@@ -187,10 +187,10 @@ module _ (code : List ℕ) (trash : ℕ) (fp n : ℕ) (most : n ≤ 5) where
       let rest = lower-do k s3 sp d u a x' v T low3 d2 u2 d0 d1 u0 u1 du free base3 sum (omega (arith, end)) (λ j lt. let m = bytes j (omega (arith, lt)) in record { high = m.high; off = m.off; is = m.is; small = m.small }) in
       let others : (y : ℕ) → T y ≡ false → with_register w3 d (joined x' v k) y ≡ with_register w d (joined x' v k) y =
       λ y off. by y (y == d) refl off (joined x' v k) (λ e. put-other w2 d (add_words (read w2 d) (read w2 u)) y e ∙ put-other w1 u (extended_by_type value_type.UnsignedChar b) y (unlike y off) ∙ put-other w d (shifted_left (read w d) 8) y e) in
-      behind-computing (instr.Shift shift.Slli d d 8) s (with_register w d (joined x' v k)) (instr.Imm imm.Lbu u 1 (pos k) ∷ instr.Reg reg.Add d d u ∷ lower_bytes d u k) T refl
-      (behind-load (instr.Imm imm.Lbu u 1 (pos k)) s1 w2 (with_register w d (joined x' v k)) (instr.Reg reg.Add d d u ∷ lower_bytes d u k) T
+      after-computing (instr.Shift shift.Slli d d 8) s (with_register w d (joined x' v k)) (instr.Imm imm.Lbu u 1 (pos k) ∷ instr.Reg reg.Add d d u ∷ lower_bytes d u k) T refl
+      (after-load (instr.Imm imm.Lbu u 1 (pos k)) s1 w2 (with_register w d (joined x' v k)) (instr.Reg reg.Add d d u ∷ lower_bytes d u k) T
       (byte-keeps value_type.UnsignedChar s1 u 1 (pos k) (a + k) b 5 (λ r. false) refl place sp low1 record { high = here.high; off = here.off; is = here.is; small = here.small })
-      (behind-computing (instr.Reg reg.Add d d u) s2 (with_register w d (joined x' v k)) (lower_bytes d u k) T refl
+      (after-computing (instr.Reg reg.Add d d u) s2 (with_register w d (joined x' v k)) (lower_bytes d u k) T refl
       (told (rv_rows code trash) s3 (with_register w3 d (joined x' v k)) (with_register w d (joined x' v k)) s.bytes s.bytes s.flags s.flags (lower_bytes d u k) fp n T others (λ y off. refl) refl rest)))
     where
       unlike : (y : ℕ) → T y ≡ false → y ≢ u
@@ -215,7 +215,7 @@ module _ (code : List ℕ) (trash : ℕ) (fp n : ℕ) (most : n ≤ 5) where
       let place : add_words (read w 1) k ≡ a + k = ap (λ z. add_words z k) (read-some w 1 (λ e. cc) ∙ at) ∙ omega (arith, end, wide) in
       let rest = lower-do k s1 sp d u a x v T (put-other w d x 2 (λ e. d2 (sym e)) ∙ low) d2 u2 d0 d1 u0 u1 du free (put-other w d x 1 (λ e. d1 (sym e)) ∙ at) (put-same w d x) (omega (arith, end, wide)) (λ j few. let m = bytes j (omega (arith, few)) in record { high = m.high; off = m.off; is = m.is; small = m.small }) in
       subst (λ row. Goes s (with_register w d (extended_by_type t v)) s.bytes (instr.Imm row d 1 (pos k) ∷ lower_bytes d u k) T) (sym (high-rows t))
-      (behind-load (instr.Imm (load_row (high_type t)) d 1 (pos k)) s w1 (with_register w d (extended_by_type t v)) (lower_bytes d u k) T
+      (after-load (instr.Imm (load_row (high_type t)) d 1 (pos k)) s w1 (with_register w d (extended_by_type t v)) (lower_bytes d u k) T
       (byte-keeps (high_type t) s d 1 (pos k) (a + k) (byte_of v k) 5 (λ r. false) (high-width t) place sp low here)
       (told (rv_rows code trash) s1 (with_register w1 d (joined x v k)) (with_register w d (extended_by_type t v)) s.bytes s.bytes s.flags s.flags (lower_bytes d u k) fp n T
       (λ y off. again w d x (joined x v k) y ∙ ap (λ z. with_register w d z y) (joined-typed t v lt)) (λ y off. refl) refl rest))
@@ -338,7 +338,7 @@ module _ (code : List ℕ) (trash : ℕ) (rows : AreRows (rv_rows code trash) Is
   alone even =
       let here : Seen = record s { registers = computed p.code s.registers } in
       straight-crosses (rv_rows code trash) IsInstr rows (from_to s W s.bytes s.flags) (p.code ++ row ∷ []) fp (spilled choices) T (row-block p.code row m.computes (row-straight t rd p.base p.offset))
-      (behind-registers code trash p.code (row ∷ []) s W s.bytes fp (spilled choices) T most m.computes
+      (after-registers code trash p.code (row ∷ []) s W s.bytes fp (spilled choices) T most m.computes
       (told (rv_rows code trash) here (with_register here.registers rd (extended_by_type t v)) W s.bytes s.bytes s.flags s.flags (row ∷ []) fp (spilled choices) T
       (λ y free. ap (λ r. if y == rd then extended_by_type t v else r) (m.keeps y (off-scratch y (spared y free)).1)) (λ y off. refl) refl
       (load-keeps code trash t here rd p.base p.offset a v fp (spilled choices) T m.makes even readable sp code-keeps-stack safe lt)))
@@ -347,8 +347,8 @@ module _ (code : List ℕ) (trash : ℕ) (rows : AreRows (rv_rows code trash) Is
     abbrev w : ℕ → ℕ
     w = tested code trash rows s W s.bytes fp (spilled choices) T most (width t) u a (12 * width t + 4) p (load-width t) temp.nonzero temp.link m (slow_load t rd u p.base p.offset) row (slow-long t rd u p.base p.offset) (slow-straight t rd u p.base p.offset)
 
-    abbrev behind-test : Seen
-    behind-test = record s { registers = w }
+    abbrev after-test : Seen
+    after-test = record s { registers = w }
 
     at-base : add_words (read w p.base) (word_of p.offset) ≡ a
     at-base = base-kept code trash rows s W s.bytes fp (spilled choices) T most (width t) u a (12 * width t + 4) p (load-width t) temp.nonzero temp.link m (slow_load t rd u p.base p.offset) row (slow-long t rd u p.base p.offset) (slow-straight t rd u p.base p.offset)
@@ -366,19 +366,19 @@ module _ (code : List ℕ) (trash : ℕ) (rows : AreRows (rv_rows code trash) Is
     kept y free = put-other (computed p.code s.registers) (tester u p.base) (bit_and (read (computed p.code s.registers) p.base) (width t - 1)) y (unlike y free) ∙ m.keeps y (off-scratch y (spared y free)).1
 
     -- the row, where it is found to be one
-    fastly : (a % width t == 0) ≡ true → Does (rv_rows code trash) (from_to behind-test W s.bytes s.flags) (row ∷ []) fp (spilled choices) T
+    fastly : (a % width t == 0) ≡ true → Does (rv_rows code trash) (from_to after-test W s.bytes s.flags) (row ∷ []) fp (spilled choices) T
     fastly even =
-        told (rv_rows code trash) behind-test (with_register w rd (extended_by_type t v)) W s.bytes s.bytes s.flags s.flags (row ∷ []) fp (spilled choices) T
+        told (rv_rows code trash) after-test (with_register w rd (extended_by_type t v)) W s.bytes s.bytes s.flags s.flags (row ∷ []) fp (spilled choices) T
         (λ y free. ap (λ r. if y == rd then extended_by_type t v else r) (kept y free)) (λ y off. refl) refl
-        (load-keeps code trash t behind-test rd p.base p.offset a v fp (spilled choices) T at-base even readable sp test-keeps-stack safe lt)
+        (load-keeps code trash t after-test rd p.base p.offset a v fp (spilled choices) T at-base even readable sp test-keeps-stack safe lt)
 
     -- the bytes, from the link
-    slowly : Does (rv_rows code trash) (from_to behind-test W s.bytes s.flags) (slow_load t rd u p.base p.offset) fp (spilled choices) T
+    slowly : Does (rv_rows code trash) (from_to after-test W s.bytes s.flags) (slow_load t rd u p.base p.offset) fp (spilled choices) T
     slowly =
         let w1 : ℕ → ℕ = put w 1 (add_words (read w p.base) (word_of p.offset)) in
         let linked-seen : Seen = record s { registers = w1 } in
         let rest = instr.Imm (high_row t) rd 1 (pos (width t - 1)) ∷ lower_bytes rd u (width t - 1) in
-        behind-registers code trash (instr.Imm imm.Addi 1 p.base p.offset ∷ []) rest behind-test W s.bytes fp (spilled choices) T most refl
+        after-registers code trash (instr.Imm imm.Addi 1 p.base p.offset ∷ []) rest after-test W s.bytes fp (spilled choices) T most refl
         (told (rv_rows code trash) linked-seen (with_register w1 rd (extended_by_type t v)) W s.bytes s.bytes s.flags s.flags rest fp (spilled choices) T
         (λ y free. ap (λ r. if y == rd then extended_by_type t v else r) (put-other w 1 (add_words (read w p.base) (word_of p.offset)) y (off-scratch y (spared y free)).1 ∙ kept y free)) (λ y off. refl) refl
         (bytes-do code trash fp (spilled choices) most t linked-seen sp rd u a v T (put-other w 1 (add_words (read w p.base) (word_of p.offset)) 2 (λ e. absurd (omega (arith, e))) ∙ test-keeps-stack) (register-no-stack d) temp.stack (register-nonzero d) (register-apart d).0 temp.nonzero temp.link temp.apart temp.free
@@ -401,12 +401,12 @@ pub load-does-so : (code : List ℕ) (trash : ℕ) → AreRows (rv_rows code tra
     → ((width t == 1) ≡ false → IsFor u (register_of Riscv64 d) (spoils rv_scratch choices)) → LoadCrosses (rv_rows code trash) IsInstr rv_scratch choices frame t d at (loading t (register_of Riscv64 d) u at)
 load-does-so code trash rows choices u frame t d at most temporary q a v named ok f address end readable safe lt = load-goes code trash rows choices u frame t d at most temporary q a v ok f address end readable safe lt
 
-pub some-behind : (xs : List Instr) (y : Instr) (ys : List Instr) → 0 < length (spellings spelling (xs ++ (y ∷ ys)))
-some-behind xs y ys = let long = spellings-long (xs ++ (y ∷ ys)) in let l = length-append xs (y ∷ ys) in omega (arith, l, long)
+pub some-after : (xs : List Instr) (y : Instr) (ys : List Instr) → 0 < length (spellings spelling (xs ++ (y ∷ ys)))
+some-after xs y ys = let long = spellings-long (xs ++ (y ∷ ys)) in let l = length-append xs (y ∷ ys) in omega (arith, l, long)
 
 pub load-has-code : (t : ValueType) (d u : ℕ) (at : Address) → 0 < length (spellings spelling (loading t d u at))
 load-has-code t d u at = by (is_whole (width t) at)
   where
     by : (c : Bool) → 0 < length (spellings spelling ((place_of (width t) at).code ++ (if c then instr.Imm (load_row t) d (place_of (width t) at).base (place_of (width t) at).offset ∷ [] else fork u (place_of (width t) at).base (width t) (12 * width t + 4) (slow_load t d u (place_of (width t) at).base (place_of (width t) at).offset) (instr.Imm (load_row t) d (place_of (width t) at).base (place_of (width t) at).offset))))
-    by true = some-behind (place_of (width t) at).code (instr.Imm (load_row t) d (place_of (width t) at).base (place_of (width t) at).offset) []
-    by false = some-behind (place_of (width t) at).code (instr.Imm imm.Andi (tester u (place_of (width t) at).base) (place_of (width t) at).base (pos (width t - 1))) (instr.Branch Beq (tester u (place_of (width t) at).base) 0 (pos (12 * width t + 4)) ∷ (slow_load t d u (place_of (width t) at).base (place_of (width t) at).offset ++ (instr.Branch Beq 0 0 (pos 8) ∷ instr.Imm (load_row t) d (place_of (width t) at).base (place_of (width t) at).offset ∷ [])))
+    by true = some-after (place_of (width t) at).code (instr.Imm (load_row t) d (place_of (width t) at).base (place_of (width t) at).offset) []
+    by false = some-after (place_of (width t) at).code (instr.Imm imm.Andi (tester u (place_of (width t) at).base) (place_of (width t) at).base (pos (width t - 1))) (instr.Branch Beq (tester u (place_of (width t) at).base) 0 (pos (12 * width t + 4)) ∷ (slow_load t d u (place_of (width t) at).base (place_of (width t) at).offset ++ (instr.Branch Beq 0 0 (pos 8) ∷ instr.Imm (load_row t) d (place_of (width t) at).base (place_of (width t) at).offset ∷ [])))

@@ -35,14 +35,14 @@ use Rattle.lg_carry.specs.Values.Computers.{Held}
 use Rattle.lg_carry.proofs.OfValues.ComputationLemmas.{computations-do}
 use Rattle.lg_carry.specs.Memory.Pushes.{IsPassed, PushesDo, HasPushCode}
 use Rattle.lg_carry.specs.Memory.Stores.{IsWritable}
-use Rattle.lg_carry.proofs.OfMemory.BehindLemmas.{told, seen_behind}
+use Rattle.lg_carry.proofs.OfMemory.AfterLemmas.{told, seen_after}
 use Rattle.lg_carry.proofs.OfMemory.ReadLemmas.{same-some, host-small}
 use Rattle.lg_selr_values.specs.declared.items.Item.{Item}
 use Rattle.lg_selr_values.specs.Items.{settled, bytes_in}
 use Rattle.lg_selr_values.proofs.ItemLemmas.{settled-append, settled-ones}
 use Rattle.lg_selr.specs.Memory.Accesses.{link}
 use Rattle.lg_selr.specs.Memory.PushCode.{into, stack_push, onto_stack, push_items, rv_push}
-use Rattle.lg_selr.proofs.OfMemory.EndLemmas.{flags-kept, behind-registers}
+use Rattle.lg_selr.proofs.OfMemory.EndLemmas.{flags-kept, after-registers}
 use Rattle.lg_selr.proofs.OfMemory.PlaceLemmas.{off-scratch}
 use Rattle.lg_selr.proofs.OfMemory.PutLemmas.{Puts, put-operand}
 use Rattle.lg_selr.proofs.OfMemory.StoreLemmas.{word-does}
@@ -74,7 +74,7 @@ module _ (code : List ℕ) (trash : ℕ) (q : Run CpuState) (fp : ℕ) where
   puts-do is rd v p =
       let M = rv_computer code trash in
       let h : Held = record { registers = w; flags = s.flags } in
-      let mid = seen_behind M is s in
+      let mid = seen_after M is s in
       told (rv_rows code trash) s mid.registers (with_register w rd v) s.bytes s.bytes mid.flags s.flags is fp 0 (spoils rv_scratch [])
       (λ y free. held-at is h y (with_register w rd v y) (p.puts y)) (λ y off. refl) (flags-kept is h) (computations-do M (is-computer code trash) is s fp 0 (spoils rv_scratch []) p.computes)
 
@@ -110,7 +110,7 @@ module _ (code : List ℕ) (trash : ℕ) (q : Run CpuState) (fp : ℕ) where
         let x = instr.Store Sd 2 from (pos (8 * (j - 8))) in
         let mid : Seen = record s { registers = computed pre w } in
         let B = stored s.bytes a 8 v in
-        behind-registers code trash pre (x ∷ []) s w B fp 0 (spoils rv_scratch []) (omega arith) p.computes
+        after-registers code trash pre (x ∷ []) s w B fp 0 (spoils rv_scratch []) (omega arith) p.computes
         (told (rv_rows code trash) mid mid.registers w B B s.flags s.flags (x ∷ []) fp 0 (spoils rv_scratch []) (λ y free. p.keeps y (off-scratch y free).1) (λ y off. refl) refl
         (word-does code trash mid 2 from (pos (8 * (j - 8))) a v fp (spoils rv_scratch []) (address mid.registers (p.keeps 2 (λ z. absurd (omega (arith, z))))) even p.holds writable (w 2) (p.keeps 2 (λ z. absurd (omega (arith, z)))) safe))
 
@@ -153,17 +153,17 @@ into-some to from rd (operand.Host name) some few slots words =
 into-some to from rd (operand.Label l) some few slots words = omega arith
 into-some to from rd (operand.Slot k) some few slots words = absurd (slots k refl)
 
-behind-some : (to : ℕ → ℕ) (from : ℕ) (xs : List Item) (j : ℕ) → 0 < length (settled to from (xs ++ stack_push j link ∷ []))
-behind-some to from xs j =
+after-some : (to : ℕ → ℕ) (from : ℕ) (xs : List Item) (j : ℕ) → 0 < length (settled to from (xs ++ stack_push j link ∷ []))
+after-some to from xs j =
     let e = ap length (settled-append to from xs (stack_push j link ∷ [])) in
     let l = length-append (settled to from xs) (settled to (from + bytes_in xs) (stack_push j link ∷ [])) in omega (arith, e, l)
 
 onto-some : (to : ℕ → ℕ) (from j : ℕ) (x : Operand) → 0 < length (settled to from (onto_stack j x))
 onto-some to from j (operand.Reg r) = omega arith
-onto-some to from j (operand.Number v) = behind-some to from (into link (operand.Number v)) j
-onto-some to from j (operand.Host name) = behind-some to from (into link (operand.Host name)) j
-onto-some to from j (operand.Label l) = behind-some to from (into link (operand.Label l)) j
-onto-some to from j (operand.Slot k) = behind-some to from (into link (operand.Slot k)) j
+onto-some to from j (operand.Number v) = after-some to from (into link (operand.Number v)) j
+onto-some to from j (operand.Host name) = after-some to from (into link (operand.Host name)) j
+onto-some to from j (operand.Label l) = after-some to from (into link (operand.Label l)) j
+onto-some to from j (operand.Slot k) = after-some to from (into link (operand.Slot k)) j
 
 pub has-push-code : (code : List ℕ) (trash : ℕ) → HasPushCode (rv_rows code trash) rv_push
 has-push-code code trash frame to from j x few slots words = let long = spellings-long (settled to from (push_items j x)) in let n = by (nat_lt j 8) refl in omega (arith, long, n)

@@ -48,14 +48,14 @@ use Rattle.lg_carry.specs.Memory.Accesses.{Address, address_word, IsAddress, Lie
 use Rattle.lg_carry.specs.Memory.Stores.{IsWritable, IsOffSlots, StoreCrosses}
 use Rattle.lg_carry.specs.Memory.Crossings.{CrossesCode}
 use Rattle.lg_carry.proofs.OfMemory.CrossingLemmas.{straight-crosses}
-use Rattle.lg_carry.proofs.OfMemory.BehindLemmas.{told, in-a-row, more-slots}
+use Rattle.lg_carry.proofs.OfMemory.AfterLemmas.{told, in-a-row, more-slots}
 use Rattle.lg_carry.proofs.OfMemory.StoreLemmas.{some-stored}
 use Rattle.lg_selr.specs.Memory.Accesses.{Place, store_row, is_whole, place_of, higher_bytes, tester, fork, halves, store_bytes, store_skip, slow_store, storing}
 use Rattle.lg_selr.proofs.OfMemory.HalfLemmas.{m1, m2, m3, m4, m5, m6, halves-store}
 use Rattle.lg_selr.proofs.OfMemory.ForkLemmas.{tested, base-kept, forks}
 use Rattle.lg_selr.proofs.OfMemory.ByteLemmas.{IsThere, writable-byte, mapped-one, apart-stored}
-use Rattle.lg_selr.proofs.OfMemory.EndLemmas.{access-keeps, access-does, behind-registers, span-above, one-above}
-use Rattle.lg_selr.proofs.OfMemory.LoadLemmas.{IsFor, some-behind, no-temporary, row-block}
+use Rattle.lg_selr.proofs.OfMemory.EndLemmas.{access-keeps, access-does, after-registers, span-above, one-above}
+use Rattle.lg_selr.proofs.OfMemory.LoadLemmas.{IsFor, some-after, no-temporary, row-block}
 use Rattle.lg_selr.proofs.OfMemory.PlaceLemmas.{IsPlaced, off-scratch, masked, store-width, placed, whole-even, frame-whole, read-some}
 
 -- a byte, and those after it
@@ -165,9 +165,9 @@ module _ (code : List ℕ) (trash : ℕ) (fp n : ℕ) (most : n ≤ 5) where
   nothing-left s M T same = told (rv_rows code trash) s s.registers s.registers s.bytes M s.flags s.flags [] fp n T (λ y free. refl) (λ y off. same y) refl (computations-do (rv_computer code trash) (is-computer code trash) [] s fp n T refl)
 
   -- a byte is stored, and then the rest
-  behind-store : (x : Instr) (s : Seen) (B : ℕ → Option ℕ) (W : ℕ → ℕ) (M : ℕ → Option ℕ) (ys : List Instr) (T : ℕ → Bool) → Does (rv_rows code trash) (from_to s s.registers B s.flags) (x ∷ []) fp 5 (λ r. false)
+  after-store : (x : Instr) (s : Seen) (B : ℕ → Option ℕ) (W : ℕ → ℕ) (M : ℕ → Option ℕ) (ys : List Instr) (T : ℕ → Bool) → Does (rv_rows code trash) (from_to s s.registers B s.flags) (x ∷ []) fp 5 (λ r. false)
       → Goes (record s { bytes = B }) W M ys T → Goes s W M (x ∷ ys) T
-  behind-store x s B W M ys T first second = in-a-row (rv_rows code trash) s s.registers W B M s.flags s.flags (x ∷ []) ys fp n T most first second
+  after-store x s B W M ys T first second = in-a-row (rv_rows code trash) s s.registers W B M s.flags s.flags (x ∷ []) ys fp n T most first second
 
   still-there : (s : Seen) (sp y v x : ℕ) → IsThere s sp fp x → IsThere (record s { bytes = stored s.bytes y 1 v }) sp fp x
   still-there s sp y v x h = record { high = h.high; off = h.off; there = stored-there s.bytes y 1 v x h.there }
@@ -191,8 +191,8 @@ module _ (code : List ℕ) (trash : ℕ) (fp n : ℕ) (most : n ≤ 5) where
       let low1 : w1 2 ≡ sp = put-other w u (shifted_right (read w from) 8) 2 (λ e. u2 (sym e)) ∙ low in
       let rest = higher-do k s2 sp u u a (m + 1) v T low1 u2 u0 u1 free base holds (omega (arith, end))
       (λ j lt. let z : a + (m + suc j) ≡ a + (m + 1 + j) = omega arith in subst (λ y. IsThere s2 sp fp y) z (let h = still-there s sp (a + m) v (a + (m + suc j)) (there (suc j) (omega (arith, lt))) in record { high = h.high; off = h.off; there = h.there })) in
-      behind-registers code trash (instr.Shift shift.Srli u from 8 ∷ []) (instr.Store row.Sb 1 u (pos m) ∷ higher_bytes u u (m + 1) k) s w M fp n T most refl
-      (behind-store (instr.Store row.Sb 1 u (pos m)) s1 B w M (higher_bytes u u (m + 1) k) T
+      after-registers code trash (instr.Shift shift.Srli u from 8 ∷ []) (instr.Store row.Sb 1 u (pos m) ∷ higher_bytes u u (m + 1) k) s w M fp n T most refl
+      (after-store (instr.Store row.Sb 1 u (pos m)) s1 B w M (higher_bytes u u (m + 1) k) T
       (byte-keeps code trash s1 1 u (pos m) (a + m) v fp 5 (λ r. false) (omega arith) place holds sp low1 record { high = here.high; off = here.off; there = here.there })
       (told (rv_rows code trash) s2 w1 w (stored B (a + (m + 1)) k (v / 256)) M s.flags s.flags (higher_bytes u u (m + 1) k) fp n T
       (λ y off. put-other w u (shifted_right (read w from) 8) y (unlike y off)) (λ y off. ap (λ f. f y) (joined-stores s.bytes (a + m) k v (a + (m + 1)) (omega arith))) refl rest))
@@ -213,7 +213,7 @@ module _ (code : List ℕ) (trash : ℕ) (fp n : ℕ) (most : n ≤ 5) where
       let here : IsThere s sp fp a = let z : a + 0 ≡ a = omega arith in subst (λ y. IsThere s sp fp y) z (there 0 (omega (arith, wide))) in
       let place : add_words (read w 1) 0 ≡ a = ap (λ z. add_words z 0) (read-some w 1 (λ e. cc) ∙ at) ∙ omega (arith, end, wide) in
       let rest = higher-do k s1 sp b u a 1 x T low u2 u0 u1 free at is (omega (arith, end, wide)) (λ j lt. let h = still-there s sp a x (a + (1 + j)) (there (1 + j) (omega (arith, lt))) in record { high = h.high; off = h.off; there = h.there }) in
-      behind-store (instr.Store row.Sb 1 b (pos 0)) s B w (stored s.bytes a (store_width t) x) (higher_bytes b u 1 k) T
+      after-store (instr.Store row.Sb 1 b (pos 0)) s B w (stored s.bytes a (store_width t) x) (higher_bytes b u 1 k) T
       (byte-keeps code trash s 1 b (pos 0) a x fp 5 (λ r. false) (omega arith) place is sp low here)
       (told (rv_rows code trash) s1 w w (stored B (a + 1) k (x / 256)) (stored s.bytes a (store_width t) x) s.flags s.flags (higher_bytes b u 1 k) fp n T
       (λ y off. refl) (λ y off. ap (λ f. f y) (joined-stores s.bytes a k x (a + 1) refl ∙ ap (λ z. stored s.bytes a z x) (omega (arith, wide)))) refl rest)
@@ -323,26 +323,26 @@ module _ (code : List ℕ) (trash : ℕ) (fp n : ℕ) (most : n ≤ 5) where
       let nu : y ≢ u = λ z. absurd (no (sym free ∙ ap T (sym z) ∙ off)) in
       let n1 : y ≢ 1 = λ z. absurd (no (sym link ∙ ap T (sym z) ∙ off)) in
       put-other r7 u v8 y nu ∙ put-other r6 u v7 y nu ∙ put-other r5 u v6 y nu ∙ put-other r4 u v5 y nu ∙ put-other r3 1 v4 y n1 ∙ put-other r2 u v3 y nu ∙ put-other r1 u v2 y nu ∙ put-other r u v1 y nu in
-      behind-store (instr.Store row.Sb 1 b (pos 0)) s c1 r M (tail-1 b u) T
+      after-store (instr.Store row.Sb 1 b (pos 0)) s c1 r M (tail-1 b u) T
       (byte-keeps code trash s 1 b (pos 0) (a + 0) (x / 256 ^ 0) fp 5 (λ r. false) (omega arith) (ap (λ z. add_words z 0) l1 ∙ (let z : add_words a 0 ≡ a + 0 = omega (arith, end) in z)) (is ∙ (let z : x ≡ x / 1 = omega arith in z)) sp low (there 0 (omega arith)))
-      (behind-registers code trash (instr.Shift shift.Srli u b 48 ∷ []) (instr.Store row.Sb 1 u (pos 6) ∷ tail-2 b u) (record s { bytes = c1 }) r M fp n T most refl
-      (behind-store (instr.Store row.Sb 1 u (pos 6)) (record s { registers = r1; bytes = c1 }) c2 r M (tail-2 b u) T
+      (after-registers code trash (instr.Shift shift.Srli u b 48 ∷ []) (instr.Store row.Sb 1 u (pos 6) ∷ tail-2 b u) (record s { bytes = c1 }) r M fp n T most refl
+      (after-store (instr.Store row.Sb 1 u (pos 6)) (record s { registers = r1; bytes = c1 }) c2 r M (tail-2 b u) T
       (byte-keeps code trash (record s { registers = r1; bytes = c1 }) 1 u (pos 6) (a + 6) (x / 256 ^ 6) fp 5 (λ r. false) (omega arith) (ap (λ z. add_words z 6) (link-of r v1 ∙ l1) ∙ (let z : add_words a 6 ≡ a + 6 = omega (arith, end) in z)) h1
       sp p1 record { high = (there 6 (omega arith)).high; off = (there 6 (omega arith)).off; there = (on1 (a + 6) (there 6 (omega arith))).there })
-      (behind-registers code trash (instr.Shift shift.Srli u u 8 ∷ []) (instr.Store row.Sb 1 u (pos 7) ∷ tail-3 b u) (record s { registers = r1; bytes = c2 }) r M fp n T most refl
-      (behind-store (instr.Store row.Sb 1 u (pos 7)) (record s { registers = r2; bytes = c2 }) c3 r M (tail-3 b u) T
+      (after-registers code trash (instr.Shift shift.Srli u u 8 ∷ []) (instr.Store row.Sb 1 u (pos 7) ∷ tail-3 b u) (record s { registers = r1; bytes = c2 }) r M fp n T most refl
+      (after-store (instr.Store row.Sb 1 u (pos 7)) (record s { registers = r2; bytes = c2 }) c3 r M (tail-3 b u) T
       (byte-keeps code trash (record s { registers = r2; bytes = c2 }) 1 u (pos 7) (a + 7) (x / 256 ^ 7) fp 5 (λ r. false) (omega arith) (ap (λ z. add_words z 7) k2 ∙ (let z : add_words a 7 ≡ a + 7 = omega (arith, end) in z)) h2
       sp p2 record { high = (there 7 (omega arith)).high; off = (there 7 (omega arith)).off; there = t2 (a + 7) (there 7 (omega arith)) })
-      (behind-registers code trash (instr.Imm imm.Andi u 1 (pos 1) ∷ instr.Reg reg.Add 1 1 u ∷ instr.Shift shift.Slli u u 3 ∷ instr.Reg reg.Srl u b u ∷ []) (instr.Store row.Sh 1 u (pos 0) ∷ tail-4 u) (record s { registers = r2; bytes = c3 }) r M fp n T most refl
-      (behind-store (instr.Store row.Sh 1 u (pos 0)) (record s { registers = r6; bytes = c3 }) c4 r M (tail-4 u) T
+      (after-registers code trash (instr.Imm imm.Andi u 1 (pos 1) ∷ instr.Reg reg.Add 1 1 u ∷ instr.Shift shift.Slli u u 3 ∷ instr.Reg reg.Srl u b u ∷ []) (instr.Store row.Sh 1 u (pos 0) ∷ tail-4 u) (record s { registers = r2; bytes = c3 }) r M fp n T most refl
+      (after-store (instr.Store row.Sh 1 u (pos 0)) (record s { registers = r6; bytes = c3 }) c4 r M (tail-4 u) T
       (half-keeps (record s { registers = r6; bytes = c3 }) u (pos 0) (a + e) (x / 256 ^ e) sp p6 (ap (λ z. add_words z 0) k6 ∙ (let z : add_words (a + e) 0 ≡ a + e = omega (arith, end, few) in z)) (grind arith) h6
       (λ j lt. record { high = (at-e0 j lt).high; off = (at-e0 j lt).off; there = t3 (a + e + j) (at-e0 j lt) }))
-      (behind-registers code trash (instr.Shift shift.Srli u u 16 ∷ []) (instr.Store row.Sh 1 u (pos 2) ∷ tail-5 u) (record s { registers = r6; bytes = c4 }) r M fp n T most refl
-      (behind-store (instr.Store row.Sh 1 u (pos 2)) (record s { registers = r7; bytes = c4 }) c5 r M (tail-5 u) T
+      (after-registers code trash (instr.Shift shift.Srli u u 16 ∷ []) (instr.Store row.Sh 1 u (pos 2) ∷ tail-5 u) (record s { registers = r6; bytes = c4 }) r M fp n T most refl
+      (after-store (instr.Store row.Sh 1 u (pos 2)) (record s { registers = r7; bytes = c4 }) c5 r M (tail-5 u) T
       (half-keeps (record s { registers = r7; bytes = c4 }) u (pos 2) (a + (e + 2)) (x / 256 ^ (e + 2)) sp p7 (ap (λ z. add_words z 2) k7 ∙ (let z : add_words (a + e) 2 ≡ a + (e + 2) = omega (arith, end, few) in z)) (grind arith) h7
       (λ j lt. record { high = (at-e 2 j (omega (arith, lt))).high; off = (at-e 2 j (omega (arith, lt))).off; there = t4 (a + (e + 2) + j) (at-e 2 j (omega (arith, lt))) }))
-      (behind-registers code trash (instr.Shift shift.Srli u u 16 ∷ []) (instr.Store row.Sh 1 u (pos 4) ∷ []) (record s { registers = r7; bytes = c5 }) r M fp n T most refl
-      (behind-store (instr.Store row.Sh 1 u (pos 4)) (record s { registers = r8; bytes = c5 }) c6 r M [] T
+      (after-registers code trash (instr.Shift shift.Srli u u 16 ∷ []) (instr.Store row.Sh 1 u (pos 4) ∷ []) (record s { registers = r7; bytes = c5 }) r M fp n T most refl
+      (after-store (instr.Store row.Sh 1 u (pos 4)) (record s { registers = r8; bytes = c5 }) c6 r M [] T
       (half-keeps (record s { registers = r8; bytes = c5 }) u (pos 4) (a + (e + 4)) (x / 256 ^ (e + 4)) sp p8 (ap (λ z. add_words z 4) k8 ∙ (let z : add_words (a + e) 4 ≡ a + (e + 4) = omega (arith, end, few) in z)) (grind arith) h8
       (λ j lt. record { high = (at-e 4 j (omega (arith, lt))).high; off = (at-e 4 j (omega (arith, lt))).off; there = t5 (a + (e + 4) + j) (at-e 4 j (omega (arith, lt))) }))
       (told (rv_rows code trash) (record s { registers = r8; bytes = c6 }) r8 r c6 M s.flags s.flags [] fp n T kept (λ y off. halves-store s.bytes a x e few y) refl
@@ -417,7 +417,7 @@ module _ (code : List ℕ) (trash : ℕ) (rows : AreRows (rv_rows code trash) Is
   alone even =
       let here : Seen = record s { registers = computed p.code s.registers } in
       straight-crosses (rv_rows code trash) IsInstr rows (from_to s s.registers M s.flags) (p.code ++ last ∷ []) fp (spilled choices) T (row-block p.code last m.computes refl)
-      (behind-registers code trash p.code (last ∷ []) s s.registers M fp (spilled choices) T most m.computes
+      (after-registers code trash p.code (last ∷ []) s s.registers M fp (spilled choices) T most m.computes
       (told (rv_rows code trash) here here.registers s.registers M M s.flags s.flags (last ∷ []) fp (spilled choices) T
       (λ y free. m.keeps y (off-scratch y (spared y free)).1) (λ y off. refl) refl
       (row-keeps code trash t here p.base rb p.offset a (s.registers rb) fp (spilled choices) T most m.makes even (read-of here.registers b ∙ m.keeps rb (register-apart b).0) writable sp code-keeps-stack safe off-slots)))
@@ -426,8 +426,8 @@ module _ (code : List ℕ) (trash : ℕ) (rows : AreRows (rv_rows code trash) Is
     abbrev w : ℕ → ℕ
     w = tested code trash rows s s.registers M fp (spilled choices) T most (store_width t) u a (store_skip t) p (store-width t) temp.nonzero temp.link m (slow_store t rb u p.base p.offset) last (slow-long t rb u p.base p.offset) (slow-straight t rb u p.base p.offset)
 
-    abbrev behind-test : Seen
-    behind-test = record s { registers = w }
+    abbrev after-test : Seen
+    after-test = record s { registers = w }
 
     at-base : add_words (read w p.base) (word_of p.offset) ≡ a
     at-base = base-kept code trash rows s s.registers M fp (spilled choices) T most (store_width t) u a (store_skip t) p (store-width t) temp.nonzero temp.link m (slow_store t rb u p.base p.offset) last (slow-long t rb u p.base p.offset) (slow-straight t rb u p.base p.offset)
@@ -452,10 +452,10 @@ module _ (code : List ℕ) (trash : ℕ) (rows : AreRows (rv_rows code trash) Is
     from-kept : w rb ≡ s.registers rb
     from-kept = kept-at rb temp.apart (register-apart b).0
 
-    fastly : (a % store_width t == 0) ≡ true → Does (rv_rows code trash) (from_to behind-test s.registers M s.flags) (last ∷ []) fp (spilled choices) T
+    fastly : (a % store_width t == 0) ≡ true → Does (rv_rows code trash) (from_to after-test s.registers M s.flags) (last ∷ []) fp (spilled choices) T
     fastly even =
-        told (rv_rows code trash) behind-test w s.registers M M s.flags s.flags (last ∷ []) fp (spilled choices) T kept (λ y off. refl) refl
-        (row-keeps code trash t behind-test p.base rb p.offset a (s.registers rb) fp (spilled choices) T most at-base even (read-of w b ∙ from-kept) writable sp test-keeps-stack safe off-slots)
+        told (rv_rows code trash) after-test w s.registers M M s.flags s.flags (last ∷ []) fp (spilled choices) T kept (λ y off. refl) refl
+        (row-keeps code trash t after-test p.base rb p.offset a (s.registers rb) fp (spilled choices) T most at-base even (read-of w b ∙ from-kept) writable sp test-keeps-stack safe off-slots)
 
     -- all bytes, from the link, by type
     all-bytes : (k : StoreType) (l : Seen) → store_width k ≡ store_width t → l.bytes ≡ s.bytes → l.flags ≡ s.flags → l.registers 2 ≡ sp → l.registers 1 ≡ a → read l.registers rb ≡ s.registers rb → ((j : ℕ) → j < store_width k → IsThere l sp fp (a + j))
@@ -465,12 +465,12 @@ module _ (code : List ℕ) (trash : ℕ) (rows : AreRows (rv_rows code trash) Is
     all-bytes store_type.Int l same bs fs low at is here = bytes-do code trash fp (spilled choices) most store_type.Int l sp rb u a (s.registers rb) T low temp.stack temp.nonzero temp.link temp.free at is (omega (arith, end, same)) here
     all-bytes store_type.Long l same bs fs low at is here = halves-do code trash fp (spilled choices) most l sp rb u a (s.registers rb) T low temp.stack temp.nonzero temp.link temp.apart (register-apart b).0 temp.free (or-true (is_taken choices 1)) at is (omega (arith, end, same)) here
 
-    slowly : Does (rv_rows code trash) (from_to behind-test s.registers M s.flags) (slow_store t rb u p.base p.offset) fp (spilled choices) T
+    slowly : Does (rv_rows code trash) (from_to after-test s.registers M s.flags) (slow_store t rb u p.base p.offset) fp (spilled choices) T
     slowly =
         let w1 : ℕ → ℕ = put w 1 (add_words (read w p.base) (word_of p.offset)) in
         let linked-seen : Seen = record s { registers = w1 } in
         let rest = store_bytes t rb u in
-        behind-registers code trash (instr.Imm imm.Addi 1 p.base p.offset ∷ []) rest behind-test s.registers M fp (spilled choices) T most refl
+        after-registers code trash (instr.Imm imm.Addi 1 p.base p.offset ∷ []) rest after-test s.registers M fp (spilled choices) T most refl
         (told (rv_rows code trash) linked-seen w1 s.registers M M s.flags s.flags rest fp (spilled choices) T
         (λ y free. put-other w 1 (add_words (read w p.base) (word_of p.offset)) y (off-scratch y (spared y free)).1 ∙ kept y free) (λ y off. refl) refl
         (all-bytes t linked-seen refl refl refl (put-other w 1 (add_words (read w p.base) (word_of p.offset)) 2 (λ e. absurd (omega (arith, e))) ∙ test-keeps-stack) (put-same w 1 (add_words (read w p.base) (word_of p.offset)) ∙ at-base)
@@ -497,5 +497,5 @@ pub store-has-code : (t : StoreType) (b u : ℕ) (at : Address) → 0 < length (
 store-has-code t b u at = by (is_whole (store_width t) at)
   where
     by : (c : Bool) → 0 < length (spellings spelling ((place_of (store_width t) at).code ++ (if c then instr.Store (store_row t) (place_of (store_width t) at).base b (place_of (store_width t) at).offset ∷ [] else fork u (place_of (store_width t) at).base (store_width t) (store_skip t) (slow_store t b u (place_of (store_width t) at).base (place_of (store_width t) at).offset) (instr.Store (store_row t) (place_of (store_width t) at).base b (place_of (store_width t) at).offset))))
-    by true = some-behind (place_of (store_width t) at).code (instr.Store (store_row t) (place_of (store_width t) at).base b (place_of (store_width t) at).offset) []
-    by false = some-behind (place_of (store_width t) at).code (instr.Imm imm.Andi (tester u (place_of (store_width t) at).base) (place_of (store_width t) at).base (pos (store_width t - 1))) (instr.Branch Beq (tester u (place_of (store_width t) at).base) 0 (pos (store_skip t)) ∷ (slow_store t b u (place_of (store_width t) at).base (place_of (store_width t) at).offset ++ (instr.Branch Beq 0 0 (pos 8) ∷ instr.Store (store_row t) (place_of (store_width t) at).base b (place_of (store_width t) at).offset ∷ [])))
+    by true = some-after (place_of (store_width t) at).code (instr.Store (store_row t) (place_of (store_width t) at).base b (place_of (store_width t) at).offset) []
+    by false = some-after (place_of (store_width t) at).code (instr.Imm imm.Andi (tester u (place_of (store_width t) at).base) (place_of (store_width t) at).base (pos (store_width t - 1))) (instr.Branch Beq (tester u (place_of (store_width t) at).base) 0 (pos (store_skip t)) ∷ (slow_store t b u (place_of (store_width t) at).base (place_of (store_width t) at).offset ++ (instr.Branch Beq 0 0 (pos 8) ∷ instr.Store (store_row t) (place_of (store_width t) at).base b (place_of (store_width t) at).offset ∷ [])))

@@ -28,10 +28,10 @@ use Rattle.lg_carry.proofs.OfValues.TwoResultLemmas.{registers-apart}
 use Rattle.lg_carry.specs.Memory.Arguments.{argument_place}
 use Rattle.lg_carry.specs.Memory.Loads.{IsReadable}
 use Rattle.lg_carry.specs.Memory.VariableArguments.{NextArgumentsDo, HasNextArgumentCode}
-use Rattle.lg_carry.proofs.OfMemory.BehindLemmas.{told, in-a-row}
+use Rattle.lg_carry.proofs.OfMemory.AfterLemmas.{told, in-a-row}
 use Rattle.lg_selr.specs.Memory.Accesses.{link}
 use Rattle.lg_selr.specs.Memory.VariableArgumentCode.{next_place_code, next_argument_instrs, rv_next_argument}
-use Rattle.lg_selr.proofs.OfMemory.EndLemmas.{behind-registers}
+use Rattle.lg_selr.proofs.OfMemory.EndLemmas.{after-registers}
 use Rattle.lg_selr.proofs.OfMemory.LoadLemmas.{load-keeps}
 use Rattle.lg_selr.proofs.OfMemory.PlaceLemmas.{off-scratch, read-some}
 
@@ -169,7 +169,7 @@ module _ (code : List ℕ) (trash : ℕ) (s : Seen) (fp : ℕ) (T : ℕ → Bool
       let mid : Seen = record s { registers = u } in
       let loaded : Seen = record s { registers = with_register u rd v } in
       let end : ℕ → ℕ = put (with_register u rd v) rs (add_words (read (with_register u rd v) rs) 1) in
-      behind-registers code trash (next_place_code rd rs) (loads ∷ adds ∷ []) s W s.bytes fp 0 T (omega arith) refl
+      after-registers code trash (next_place_code rd rs) (loads ∷ adds ∷ []) s W s.bytes fp 0 T (omega arith) refl
       (in-a-row (rv_rows code trash) mid (with_register u rd v) W s.bytes s.bytes s.flags s.flags (loads ∷ []) (adds ∷ []) fp 0 T (omega arith)
       (load-keeps code trash value_type.Long mid rd rd (negsuc 39) a v fp 5 (λ r. false) (ap (λ x. add_words x (word_of (negsuc 39))) p.holds ∙ place) even readable (s.registers 2) (p.keeps 2 (λ e. r2 (sym e)) (λ e. absurd (omega (arith, e)))) safe lt)
       (told (rv_rows code trash) loaded end W s.bytes s.bytes s.flags s.flags (adds ∷ []) fp 0 T

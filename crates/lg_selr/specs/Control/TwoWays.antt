@@ -26,8 +26,8 @@ leads_unless Near o a b at to = instr.Branch o a b (pos 8) ∷ instr.Jal 0 (pos 
 leads_unless Far o a b at to = instr.Branch o a b (pos 12) ∷ far_jump 0 31 (at + 4) to
 
 -- front is before it
-abbrev pub branch_behind : Reach → List Instr → BranchOp → ℕ → ℕ → ℕ → ℕ → List Instr
-branch_behind r front o a b from to = front ++ leads_unless r o a b (from + 4 * length front) to
+abbrev pub branch_after : Reach → List Instr → BranchOp → ℕ → ℕ → ℕ → ℕ → List Instr
+branch_after r front o a b from to = front ++ leads_unless r o a b (from + 4 * length front) to
 
 -- what puts the second operand into its register
 abbrev pub word_code : Option ℕ → List Instr
@@ -45,7 +45,7 @@ before_branch o a x = second_code x ++ bits_code o (register_of Riscv64 a) (seco
 
 abbrev pub branch_code : Reach → ℕ → Condition → Reg → Operand → ℕ → ℕ → List Instr
 branch_code r frame o a x from to =
-    branch_behind r (before_branch o a x) (failing o) (left_of o (register_of Riscv64 a) (second_register x))
+    branch_after r (before_branch o a x) (failing o) (left_of o (register_of Riscv64 a) (second_register x))
     (right_of o (register_of Riscv64 a) (second_register x)) from to
 
 -- one on a sum or difference
@@ -53,4 +53,4 @@ abbrev pub before_sum_branch : BranchSumOp → Reg → Operand → List Instr
 before_sum_branch o a x = second_code x ++ sum_code o (register_of Riscv64 a) (second_register x)
 
 abbrev pub sum_branch_code : Reach → ℕ → BranchSumOp → Reg → Operand → ℕ → ℕ → List Instr
-sum_branch_code r frame o a x from to = branch_behind r (before_sum_branch o a x) (staying o) 31 0 from to
+sum_branch_code r frame o a x from to = branch_after r (before_sum_branch o a x) (staying o) 31 0 from to

@@ -288,8 +288,8 @@ module _ (rd : ℕ) (some : rd ≢ 0) where
             ∙ put-again w rd (shifted_left (above v) 12) (λ z. add_words z (word_of (low_part v))) some ∙ ap (put w rd) (low-made v small),
       )
 
-  behind-loads : (v : ℕ) (xs : List Instr) → v < 2 ^ 64 → Loads rd (above v) xs → Loads rd v (xs ++ low_code rd v)
-  behind-loads v xs small l =
+  after-loads : (v : ℕ) (xs : List Instr) → v < 2 ^ 64 → Loads rd (above v) xs → Loads rd v (xs ++ low_code rd v)
+  after-loads v xs small l =
       let low = low-loads v small in
       record {
         computes = all-compute-append xs (low_code rd v) l.computes low.0;
@@ -305,11 +305,11 @@ module _ (rd : ℕ) (some : rd ≢ 0) where
           → Loads rd v (if b then short_code rd v else if c then half_code rd v else wide_code n rd (above v) ++ low_code rd v)
       by true near c e l = short-loads v small near
       by false far true near l = half-loads v small near
-      by false far false e l = behind-loads v (wide_code n rd (above v)) small l
+      by false far false e l = after-loads v (wide_code n rd (above v)) small l
 
   long-loads : (v : ℕ) → v < 2 ^ 64 → Loads rd v (long_code rd v)
   unfolding long_code
-  long-loads v small = behind-loads v (wide_code 2 rd (above v)) small (wide-loads 2 (above v) (above-small v) (spans-above 2 v small tt))
+  long-loads v small = after-loads v (wide_code 2 rd (above v)) small (wide-loads 2 (above v) (above-small v) (spans-above 2 v small tt))
 
 module _ (rd v : ℕ) (some : rd ≢ 0) (within : rd < 32) (small : v < 2 ^ 64) where
   loads : Loads rd v (number_code rd v)

@@ -48,7 +48,7 @@ use Rattle.lg_selx_values.proofs.RegisterLemmas.{put-same, put-other}
 use Rattle.lg_selx.specs.Control.Calls.{call_code}
 use Rattle.lg_selx.specs.Control.HostCalls.{host_code, x86_ready}
 use Rattle.lg_selx.specs.Control.RegisterLeaps.{register_call_code}
-use Rattle.lg_selx.proofs.OfControl.StretchLemmas.{front_run, front_state, front-top, front-passed, front-block, front-behind, spelled-some, all-still}
+use Rattle.lg_selx.proofs.OfControl.StretchLemmas.{front_run, front_state, front-top, front-passed, front-block, front-after, spelled-some, all-still}
 use Rattle.lg_selx.proofs.OfControl.WalkLemmas.{leads-there}
 
 -- ---- the word that is pushed
@@ -143,12 +143,12 @@ module _ (code : List ℕ) (trash : ℕ) (small : length code ≤ most_code) (by
   sinks-it within still pass =
       let above = still-above front (scene_of q.state) still in
       let block = front-block true code trash small bytes word from front x q (scene W q.state.flags q.state.bytes) k made runs at above in
-      let behind-it = front-behind true code trash small bytes word from front x q (scene W q.state.flags q.state.bytes) k made runs at above in
+      let after-it = front-after true code trash small bytes word from front x q (scene W q.state.flags q.state.bytes) k made runs at above in
       let level = still-done (x86_rows code trash) front q (all-still code trash front within) in
       let same-stack : u.state.registers 4 ≡ sp - 8 = put-same W 4 (sp - 8) in
       let begins = block-sinks (x86_rows code trash) front q from block (still-lowers (x86_rows code trash) front q (all-still code trash front within)) at in
       sinks-last (x86_processor code trash) from (length front) q r u begins block.leads pass.leads (omega (arith, level, same-stack))
-      (λ some. let l = spelled-some front some in omega (arith, l, behind-it))
+      (λ some. let l = spelled-some front some in omega (arith, l, after-it))
 
   pub call-arrival : Each (WritesWithin false) front → list_all is_still front ≡ true → touched x W ≡ beneath W → does x high last ≡ goes_with last to Memory (pushes high (scene_of last))
       → Arrival (x86_processor code trash) from high sp high to q
@@ -184,10 +184,10 @@ module _ (code : List ℕ) (trash : ℕ) (small : length code ≤ most_code) (by
       (ap (λ y. goes_with last y Memory (pushes high (scene_of last))) (leads-there high (from + 5) to (omega arith) (omega (arith, top)) (omega (arith, t))))
 
   -- of the word in r11, with al = 0
-  abbrev behind_moves : (ℕ → ℕ) → ℕ → ℕ → ℕ
-  behind_moves w to = put (put w 11 to) 0 0
+  abbrev after_moves : (ℕ → ℕ) → ℕ → ℕ → ℕ
+  after_moves w to = put (put w 11 to) 0 0
 
-  moves-keep : (w : ℕ → ℕ) (to z : ℕ) → z ≢ 0 → z ≢ 11 → behind_moves w to z ≡ w z
+  moves-keep : (w : ℕ → ℕ) (to z : ℕ) → z ≢ 0 → z ≢ 11 → after_moves w to z ≡ w z
   moves-keep w to z n0 n11 = put-other (put w 11 to) 0 0 z n0 ∙ put-other w 11 to z n11
 
   register-arrival : (frame from to : ℕ) (a : Reg) (q : Run CpuState) → HasFrame X86_64 frame (x86_seen q)
@@ -196,7 +196,7 @@ module _ (code : List ℕ) (trash : ℕ) (small : length code ≤ most_code) (by
       → Arrival (x86_processor code trash) from (behind (x86_rows code trash) from (register_call_code frame a)) (q.state.registers 4)
       (behind (x86_rows code trash) from (register_call_code frame a)) to q
   register-arrival frame from to a q f k there runs at is =
-      let W : ℕ → ℕ = behind_moves q.state.registers (q.state.registers (register_of X86_64 a)) in
+      let W : ℕ → ℕ = after_moves q.state.registers (q.state.registers (register_of X86_64 a)) in
       let x : Instr = instr.JumpReg Callr 11 in
       let front : List Instr = instr.RmReg Mov 11 (register_of X86_64 a) ∷ (instr.Movi32 0 0 ∷ []) in
       let high : ℕ = behind (x86_rows code trash) from (register_call_code frame a) in
@@ -225,7 +225,7 @@ module _ (code : List ℕ) (trash : ℕ) (small : length code ≤ most_code) (by
       → Arrival (x86_processor code trash) from (behind (x86_rows code trash) from (host_code name)) (q.state.registers 4)
       (behind (x86_rows code trash) from (host_code name)) (host_address name) q
   host-arrival frame from name q f k runs at =
-      let W : ℕ → ℕ = behind_moves q.state.registers (host_address name) in
+      let W : ℕ → ℕ = after_moves q.state.registers (host_address name) in
       let front : List Instr = instr.Movi32 11 (host_address name) ∷ (instr.Movi32 0 0 ∷ []) in
       call-arrival code trash small bytes word from (host_address name) frame front (instr.JumpReg Callr 11) W q f k refl (omega arith) runs at
       (entry-runs name) (λ z n m. moves-keep q.state.registers (host_address name) z n m) ((refl, tt), ((refl, tt), tt)) refl refl refl

@@ -102,18 +102,18 @@ module _ (r : Reach) (saved : ℕ) (to : ℕ → ℕ) (frame homes at : ℕ) whe
   register-calls xs = refl
 
   -- a return after items that become this code
-  returns-behind : (xs : List Item) (is : List Instr) → settled to at xs ≡ is → settled to at (xs ++ ones (return_code saved)) ≡ is ++ return_code saved
-  returns-behind xs is e =
+  returns-after : (xs : List Item) (is : List Instr) → settled to at xs ≡ is → settled to at (xs ++ ones (return_code saved)) ≡ is ++ return_code saved
+  returns-after xs is e =
       settled-append to at xs (ones (return_code saved)) ∙ ap (λ z. z ++ settled to (at + length (blanks xs)) (ones (return_code saved))) e
       ∙ ap (λ z. is ++ z) (settled-ones to (at + length (blanks xs)) (return_code saved))
 
   results : (x : Operand) → settled to at (result_items x ++ ones (return_code saved)) ≡ C.ret frame (returned_of to x)
-  results (operand.Reg R0) = returns-behind [] [] refl
-  results (operand.Reg a) = returns-behind (result_items (operand.Reg a)) (result_code (OfRegister a)) refl
-  results (operand.Number v) = returns-behind (result_items (operand.Number v)) (result_code (OfNumber v)) refl
-  results (operand.Host name) = returns-behind (result_items (operand.Host name)) (result_code (OfNumber (host_address name))) refl
-  results (operand.Label l) = returns-behind (result_items (operand.Label l)) (result_code (OfLabel (to l.0))) refl
-  results (operand.Slot k) = returns-behind [] [] refl
+  results (operand.Reg R0) = returns-after [] [] refl
+  results (operand.Reg a) = returns-after (result_items (operand.Reg a)) (result_code (OfRegister a)) refl
+  results (operand.Number v) = returns-after (result_items (operand.Number v)) (result_code (OfNumber v)) refl
+  results (operand.Host name) = returns-after (result_items (operand.Host name)) (result_code (OfNumber (host_address name))) refl
+  results (operand.Label l) = returns-after (result_items (operand.Label l)) (result_code (OfLabel (to l.0))) refl
+  results (operand.Slot k) = returns-after [] [] refl
 
   returns : (xs : List Operand) → settled to at (ret_items saved xs) ≡ return_of C to frame xs
   returns (x ∷ []) = results x

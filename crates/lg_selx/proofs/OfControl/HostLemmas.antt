@@ -11,7 +11,7 @@ use Rattle.lg_base.specs.declared.fault.FaultKind.TheVariants.{Host as HostFault
 use Rattle.lg_base.specs.declared.host_name.HostName.{HostName}
 use Rattle.lg_base.specs.declared.target.Target.TheVariants.{X86_64}
 use Rattle.lg_host.specs.Host.{Host, Gives, Exits}
-use Rattle.lg_cpu.specs.HostSteps.{clobbered, behind_call, answer_at, returned}
+use Rattle.lg_cpu.specs.HostSteps.{clobbered, after_call, answer_at, returned}
 use Rattle.lg_cpu.specs.Laws.{AreBytes, IsSound}
 use Rattle.lg_cpu.specs.States.{CpuState}
 use Rattle.lg_cpu.specs.Steps.{Run, after, faults, status_of}
@@ -39,8 +39,8 @@ no-result x k = λ z. absurd (differ (subst (λ y. is_kept X86_64 y ≡ true) z 
     differ : is_kept X86_64 0 ≡ true → ⊥
     differ e = cc
 
-kept-behind : (w : ℕ → ℕ) (trash v x : ℕ) → is_kept X86_64 x ≡ true → behind_call X86_64 16 w trash v x ≡ w x
-kept-behind w trash v x e =
+kept-after : (w : ℕ → ℕ) (trash v x : ℕ) → is_kept X86_64 x ≡ true → after_call X86_64 16 w trash v x ≡ w x
+kept-after w trash v x e =
     put-other (clobbered X86_64 16 w trash) 0 v x (no-result x e) ∙ ap (λ b. if nat_lt x 16 && not b then trash else w x) e ∙ off (nat_lt x 16)
   where
     off : (b : Bool) → (if b && false then trash else w x) ≡ w x
@@ -89,9 +89,9 @@ module _ (code : List ℕ) (trash : ℕ) (small : length code ≤ most_code) (by
           runs = λ low. runs-there back low;
           out = refl;
           here = refl;
-          pointer = put-same (behind_call X86_64 16 w trash v) 4 rises ∙ ap (λ n. add_words n 8) arr.pointer ∙ pops stack arr.low arr.high;
-          result = put-other (behind_call X86_64 16 w trash v) 4 rises 0 (λ z. cc) ∙ put-same (clobbered X86_64 16 w trash) 0 v;
-          kept = λ x k ne. put-other (behind_call X86_64 16 w trash v) 4 rises x ne ∙ kept-behind w trash v x k;
+          pointer = put-same (after_call X86_64 16 w trash v) 4 rises ∙ ap (λ n. add_words n 8) arr.pointer ∙ pops stack arr.low arr.high;
+          result = put-other (after_call X86_64 16 w trash v) 4 rises 0 (λ z. cc) ∙ put-same (clobbered X86_64 16 w trash) 0 v;
+          kept = λ x k ne. put-other (after_call X86_64 16 w trash v) 4 rises x ne ∙ kept-after w trash v x k;
           memory_is = λ a. refl;
           mark = refl;
           words = is-sound.words;

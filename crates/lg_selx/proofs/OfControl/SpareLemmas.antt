@@ -42,9 +42,9 @@ pointer-again frame v w f m h =
     ap (λ g. Some (scene g f m)) (put-twice w 5 v (add_words (w 4) (frame - 16)) ∙ put-own w 5 (add_words (w 4) (frame - 16)) h.pointer)
 
 -- and another register keeps what it got meanwhile
-pub pointer-behind : (frame v a z : ℕ) (w : ℕ → ℕ) (f : Flags) (m : ℕ → Option ℕ) → a ≢ 5 → a ≢ 4 → IsFramed frame w
+pub pointer-after : (frame v a z : ℕ) (w : ℕ → ℕ) (f : Flags) (m : ℕ → Option ℕ) → a ≢ 5 → a ≢ 4 → IsFramed frame w
     → made (instr.Load Lea 5 4 (pos (frame - 16))) (scene (put (put w 5 v) a z) f m) ≡ Some (scene (put w a z) f m)
-pointer-behind frame v a z w f m a5 a4 h =
+pointer-after frame v a z w f m a5 a4 h =
     let u : ℕ → ℕ = put (put w 5 v) a z in
     let low : u 4 ≡ w 4 = off in
     let g : ℕ = add_words (w 4) (frame - 16) in

@@ -28,9 +28,9 @@ use Rattle.lg_carry.proofs.OfNodes.StretchLemmas.{spelled-append, part-passes, p
 use Rattle.lg_sel.proofs.OfControl.StretchLemmas as stretches
 
 -- how many bytes an instruction has after others
-pub spelled-behind : (front : List Instr) (x : Instr)
+pub spelled-after : (front : List Instr) (x : Instr)
     → length (spellings spelling (front ++ (x ∷ []))) ≡ length (spellings spelling front) + length (spelling x)
-spelled-behind front x =
+spelled-after front x =
     ap length (spelled-append spelling front (x ∷ [])) ∙ length-append (spellings spelling front) (spelling x ++ [])
     ∙ ap (λ n. length (spellings spelling front) + length n) (append-nil (spelling x))
 
@@ -67,10 +67,10 @@ module _ (moves : Bool) (code : List ℕ) (trash : ℕ) (small : length code ≤
     front_high = behind (x86_rows code trash) from (front ++ (x ∷ []))
 
     pub front-size : front_high ≡ from + length (spellings spelling front) + length (spelling x)
-    front-size = let e = spelled-behind front x in omega (arith, e)
+    front-size = let e = spelled-after front x in omega (arith, e)
 
     pub front-top : front_high ≤ code_base + most_code
-    front-top = let s = (sized x).some in let e = spelled-behind front x in stands-high from (front ++ (x ∷ [])) (omega (arith, s, e)) k
+    front-top = let s = (sized x).some in let e = spelled-after front x in stands-high from (front ++ (x ∷ [])) (omega (arith, s, e)) k
 
     abbrev pub front_run : Run CpuState
     front_run = done x86_does front q
@@ -83,12 +83,12 @@ module _ (moves : Bool) (code : List ℕ) (trash : ℕ) (small : length code ≤
     abbrev pub front_state : CpuState
     front_state = state_of (from + length (spellings spelling front)) t q.state.mark
 
-    pub front-behind : AreAbove front (scene_of q.state) → front_run.state.pc ≡ from + length (spellings spelling front)
-    front-behind above = (front-ran above).behind ∙ ap (λ n. n + length (spellings spelling front)) at
+    pub front-after : AreAbove front (scene_of q.state) → front_run.state.pc ≡ from + length (spellings spelling front)
+    front-after above = (front-ran above).behind ∙ ap (λ n. n + length (spellings spelling front)) at
 
     pub front-left : AreAbove front (scene_of q.state) → front_run.state ≡ front_state
     front-left above =
-        let r = front-ran above in same-state front_run.state (from + length (spellings spelling front)) t q.state.mark (front-behind above) r.scene r.mark
+        let r = front-ran above in same-state front_run.state (from + length (spellings spelling front)) t q.state.mark (front-after above) r.scene r.mark
 
     pub front-next : add_words (from + length (spellings spelling front)) (length (spelling x)) ≡ front_high
     front-next =
@@ -108,7 +108,7 @@ module _ (moves : Bool) (code : List ℕ) (trash : ℕ) (small : length code ≤
         (part-passes (x86_rows code trash) IsInstr rows moves from [] front (x ∷ []) q k (at ∙ omega arith) (makes-block front (scene_of q.state) t made)
         (front-ran above).through)
         (stretches.one-passed (x86_rows code trash) IsInstr rows moves from front x [] front_run (after front_run e) k (front-ran above).runs
-        (subst (acts_above x) (sym (front-left above)) here) (front-behind above)
+        (subst (acts_above x) (sym (front-left above)) here) (front-after above)
         (went front_run (act x (length (spelling x)) front_run.state) (front-ran above).runs
         ∙ ap (after front_run) (ap (act x (length (spelling x))) (front-left above) ∙ ap (λ pc. does x pc front_state) front-next ∙ is)))
 

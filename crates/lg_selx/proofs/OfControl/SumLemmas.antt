@@ -29,7 +29,7 @@ use Rattle.lg_selx_values.proofs.BinaryCodeLemmas.{some-same}
 use Rattle.lg_selx_values.proofs.RegisterLemmas.{put-other, register-not-frame, register-portable}
 use Rattle.lg_selx.specs.Control.SumBranches.{sum_row, sum_number, sum_taken, number_sum, before_sum_branch}
 use Rattle.lg_selx.proofs.OfControl.ComparisonLemmas.{Tells}
-use Rattle.lg_selx.proofs.OfControl.SpareLemmas.{IsFramed, pointer-behind}
+use Rattle.lg_selx.proofs.OfControl.SpareLemmas.{IsFramed, pointer-after}
 
 -- ---- one row
 -- the flags say whether the exact result fits
@@ -84,7 +84,7 @@ module _ (o : BranchSumOp) (frame a v : ℕ) (s : Scene) (small : v < 2 ^ 64) (a
       ap (option_and_then (makes (instr.RmReg (sum_row o) a 5 ∷ again frame))) ((row-loads 5 v (omega arith) small).value s)
       ∙ ap (option_and_then (makes (again frame))) (summed-made o a v (scene u s.flags s.bytes)
       ∙ (λ j. Some (scene (put u a (branch_sum_value o (own j) v)) (alu_flags (sum_row o) s.flags (own j) v 0) s.bytes)))
-      ∙ ap (option_and_then (makes [])) (pointer-behind frame v a (branch_sum_value o (w a) v) w left s.bytes a5 a4 framed)
+      ∙ ap (option_and_then (makes [])) (pointer-after frame v a (branch_sum_value o (w a) v) w left s.bytes a5 a4 framed)
 
   number-makes : makes (number_sum o frame a v) s ≡ Some (scene made_registers left s.bytes)
   number-makes = by (is_half v)

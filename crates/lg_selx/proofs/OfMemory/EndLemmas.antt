@@ -18,7 +18,7 @@ use Rattle.lg_selx_values.specs.Processor.X86Rows.{x86_rows}
 use Rattle.lg_selx_values.proofs.OfProcessor.MakingLemmas.{makings-run}
 use Rattle.lg_carry.specs.Nodes.Straight.{from_to}
 use Rattle.lg_carry.specs.Memory.Accesses.{LiesAbove}
-use Rattle.lg_carry.proofs.OfMemory.BehindLemmas.{no-slots}
+use Rattle.lg_carry.proofs.OfMemory.AfterLemmas.{no-slots}
 
 -- over a memory the code makes these registers, but for those of T, these flags, and these bytes but for the slots; it keeps the first n slots
 pub record LeadsTo (is : List Instr) (s : Seen) (W : ℕ → ℕ) (M : ℕ → Option ℕ) (F : Flags) (fp n : ℕ) (T : ℕ → Bool) (bytes : ℕ → Option ℕ) : Type 0 where

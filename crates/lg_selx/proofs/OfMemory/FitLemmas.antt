@@ -141,8 +141,8 @@ store-row-good : (t : StoreType) (base : ℕ) (disp : ℤ) (from : ℕ) → base
 store-row-good t base disp from b d h = ((b, d, h), tt, refl)
 
 -- ---- the code of nodes
-behind-good : (frame : ℕ) (p : Place) → frame < 0x40000000 → IsFitCode 1 (behind frame p)
-behind-good frame p h = by p.spare
+after-good : (frame : ℕ) (p : Place) → frame < 0x40000000 → IsFitCode 1 (behind frame p)
+after-good frame p h = by p.spare
   where
     by : (b : Bool) → IsFitCode 1 (if b then remade frame p.base else [])
     by true = remade-good frame p.base h
@@ -150,7 +150,7 @@ behind-good frame p h = by p.spare
 
 around-place : (frame : ℕ) (p : Place) (i : Instr) → frame < 0x40000000 → IsGoodPlace p → IsGood i → IsFitCode 4 (p.code ++ i ∷ behind frame p)
 around-place frame p i lt g h =
-    let b = behind-good frame p lt in
+    let b = after-good frame p lt in
     let l = length-append p.code (i ∷ behind frame p) in
     let k = g.few in
     let f = b.few in record { good = good-append p.code (i ∷ behind frame p) g.code (h, b.good); few = omega (arith, l, k, f) }

@@ -27,7 +27,7 @@ use Rattle.lg_selx_values.proofs.RegisterLemmas.{put-other, register-portable, r
 use Rattle.lg_selx.proofs.OfControl.SpareLemmas.{framed}
 use Rattle.lg_selx.specs.Memory.Accesses.{load_row, load_spare, place_of, behind, x86_load}
 use Rattle.lg_selx.proofs.OfMemory.EndLemmas.{makes-does, access-above, some-spelled}
-use Rattle.lg_selx.proofs.OfMemory.PlaceLemmas.{placed, load-spare, loaded-behind}
+use Rattle.lg_selx.proofs.OfMemory.PlaceLemmas.{placed, load-spare, loaded-after}
 
 -- a row loads by its type, wherever the address lies
 pub load-made : (t : ValueType) (s : Scene) (d base : ℕ) (disp : ℤ) (a v : ℕ) → add_words (s.registers base) (word_of disp) ≡ a
@@ -82,12 +82,12 @@ loads-do code trash frame t d at q a v named ok f address end readable safe lt =
           (access-above v1 p.base p.disp a (width t) (w 4) (load_width (load_row t)) (put-other w ts h.word 4 (spare-apart ts rd portable.no_stack k.which)) (h.address ∙ address) (load-wide t) safe)
           (still-above (behind frame p) (scene (put v1 rd (extended_by_type t v)) s.flags bytes)
           (makings-still (behind frame p) (put v1 rd (extended_by_type t v)) s.flags (scene W s.flags (λ y. None))
-          (loaded-behind frame w s.flags (λ y. None) (framed frame s f) rd (extended_by_type t v) off portable.no_stack ts (address_word X86_64 w at) p h k.which))));
+          (loaded-after frame w s.flags (λ y. None) (framed frame s f) rd (extended_by_type t v) off portable.no_stack ts (address_word X86_64 w at) p h k.which))));
       makes_it = makes-append p.code (x ∷ behind frame p) (scene w s.flags bytes) (scene (put w ts h.word) s.flags bytes)
           (scene (put w rd (extended_by_type t v)) s.flags bytes) (h.makes_it s.flags bytes)
           (ap (option_and_then (makes (behind frame p)))
           (load-made t (scene (put w ts h.word) s.flags bytes) rd p.base p.disp a v (h.address ∙ address) (readable bytes same) lt)
-          ∙ loaded-behind frame w s.flags bytes (framed frame s f) rd (extended_by_type t v) off portable.no_stack ts (address_word X86_64 w at) p h k.which);
+          ∙ loaded-after frame w s.flags bytes (framed frame s f) rd (extended_by_type t v) off portable.no_stack ts (address_word X86_64 w at) p h k.which);
       bytes_are = same;
     })
 

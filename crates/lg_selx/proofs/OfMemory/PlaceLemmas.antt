@@ -17,7 +17,7 @@ use Rattle.lg_selx_values.proofs.OfProcessor.NumberCodeLemmas.{view-word, row-lo
 use Rattle.lg_carry.specs.Memory.Accesses.{Address, Base, At, Sum, Index, address_word, IsAddress}
 use Rattle.lg_selx_values.specs.Scratch.{again}
 use Rattle.lg_selx_values.proofs.RegisterLemmas.{put-same, put-other, put-twice, put-own, equal, apart}
-use Rattle.lg_selx.proofs.OfControl.SpareLemmas.{IsFramed, pointer-behind}
+use Rattle.lg_selx.proofs.OfControl.SpareLemmas.{IsFramed, pointer-after}
 use Rattle.lg_selx.specs.Memory.Accesses.{Place, at_register, at_spare, place_of, remade, behind, indexes, load_spare}
 
 -- the code puts a word into register t alone, after which the place has this address; where the place does not use t, that is its own word
@@ -28,8 +28,8 @@ pub record IsPlaced (t : ℕ) (p : Place) (w : ℕ → ℕ) (a : ℕ) : Type 0 w
   pub spared : ((p.spare ≡ true) × (p.base ≡ t)) ⊎ ((p.spare ≡ false) × (word ≡ w t))
 
 -- ---- words
-pub none-behind : (a : ℕ) → a < 2 ^ 64 → add_words a 0 ≡ a
-none-behind a h = omega (arith, h)
+pub none-after : (a : ℕ) → a < 2 ^ 64 → add_words a 0 ≡ a
+none-after a h = omega (arith, h)
 
 sum-small : (b c : ℕ) → add_words b c < 2 ^ 64
 sum-small b c = omega arith
@@ -54,7 +54,7 @@ module _ (t : ℕ) (w : ℕ → ℕ) where
   at-spare is v small e = record {
     word = v;
     makes_it = e;
-    address = ap (λ x. add_words x 0) (put-same w t v) ∙ none-behind v small;
+    address = ap (λ x. add_words x 0) (put-same w t v) ∙ none-after v small;
     spared = inl (refl, refl);
   }
 
@@ -78,7 +78,7 @@ module _ (t : ℕ) (w : ℕ → ℕ) where
 
   pub placed : (at : Address) → t < 16 → IsAddress at → ((x : ℕ) → w x < 2 ^ 64) → indexes t at ≡ false → IsPlaced t (place_of t at) w (address_word X86_64 w at)
   placed (Base a) few ok words free =
-      let r = register_of X86_64 a in at-register r 0 (w r) (at_register r (pos 0)) refl refl (none-behind (w r) (words r))
+      let r = register_of X86_64 a in at-register r 0 (w r) (at_register r (pos 0)) refl refl (none-after (w r) (words r))
   placed (At v) few ok words free = at-spare (number_row t v ∷ []) v ok (number-made v few ok)
   placed (Sum a b) few ok words free =
       let ra = register_of X86_64 a in let rb = register_of X86_64 b in
@@ -109,24 +109,24 @@ load-spare d at few ne = by (indexes d at) refl
 module _ (frame : ℕ) (w : ℕ → ℕ) (f : Flags) (m : ℕ → Option ℕ) (framed : IsFramed frame w) where
   -- another register keeps what it got meanwhile
   module _ (d x : ℕ) (off5 : d ≢ 5) (off4 : d ≢ 4) where
-    own-behind : (v : ℕ) → makes (remade frame d) (scene (put (put w d v) d x) f m) ≡ Some (scene (put w d x) f m)
-    own-behind v = by (d == 5) refl
+    own-after : (v : ℕ) → makes (remade frame d) (scene (put (put w d v) d x) f m) ≡ Some (scene (put w d x) f m)
+    own-after v = by (d == 5) refl
       where
         by : (c : Bool) → (d == 5) ≡ c → makes (if c then again frame else []) (scene (put (put w d v) d x) f m) ≡ Some (scene (put w d x) f m)
         by true g = absurd (off5 (equal d 5 g))
         by false g = ap (λ h. Some (scene h f m)) (put-twice w d v x)
 
     pointer-kept : (v : ℕ) → makes (again frame) (scene (put (put w 5 v) d x) f m) ≡ Some (scene (put w d x) f m)
-    pointer-kept v = ap (option_and_then (makes [])) (pointer-behind frame v d x w f m off5 off4 framed)
+    pointer-kept v = ap (option_and_then (makes [])) (pointer-after frame v d x w f m off5 off4 framed)
 
     spare-kept : (t v : ℕ) → (t ≡ 5) ⊎ (t ≡ d) → makes (remade frame t) (scene (put (put w t v) d x) f m) ≡ Some (scene (put w d x) f m)
     spare-kept t v (inl e) = subst (λ z. makes (remade frame z) (scene (put (put w z v) d x) f m) ≡ Some (scene (put w d x) f m)) (sym e) (pointer-kept v)
-    spare-kept t v (inr e) = subst (λ z. makes (remade frame z) (scene (put (put w z v) d x) f m) ≡ Some (scene (put w d x) f m)) (sym e) (own-behind v)
+    spare-kept t v (inr e) = subst (λ z. makes (remade frame z) (scene (put (put w z v) d x) f m) ≡ Some (scene (put w d x) f m)) (sym e) (own-after v)
 
     -- after a load
-    pub loaded-behind : (t a : ℕ) (p : Place) (h : IsPlaced t p w a) → (t ≡ 5) ⊎ (t ≡ d)
+    pub loaded-after : (t a : ℕ) (p : Place) (h : IsPlaced t p w a) → (t ≡ 5) ⊎ (t ≡ d)
         → makes (behind frame p) (scene (put (put w t h.word) d x) f m) ≡ Some (scene (put w d x) f m)
-    loaded-behind t a p h which = by h.spared
+    loaded-after t a p h which = by h.spared
       where
         by : ((p.spare ≡ true) × (p.base ≡ t)) ⊎ ((p.spare ≡ false) × (h.word ≡ w t))
             → makes (behind frame p) (scene (put (put w t h.word) d x) f m) ≡ Some (scene (put w d x) f m)

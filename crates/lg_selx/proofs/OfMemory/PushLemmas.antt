@@ -157,17 +157,17 @@ into-some to from rd (operand.Host name) slots = some-spelled [] (number_row rd 
 into-some to from rd (operand.Label l) slots = some-spelled [] (instr.Movi32 rd (to l.0)) []
 into-some to from rd (operand.Slot k) slots = absurd (slots k refl)
 
-behind-some : (to : ℕ → ℕ) (from frame j : ℕ) (xs : List Item) → 0 < length (spellings spelling (settled to from (xs ++ stack_push j 5 ∷ ones (again frame))))
-behind-some to from frame j xs =
+after-some : (to : ℕ → ℕ) (from frame j : ℕ) (xs : List Item) → 0 < length (spellings spelling (settled to from (xs ++ stack_push j 5 ∷ ones (again frame))))
+after-some to from frame j xs =
     subst (λ is. 0 < length (spellings spelling is)) (sym (settled-append to from xs (stack_push j 5 ∷ ones (again frame))))
     (some-spelled (settled to from xs) (instr.Store St64 4 (pos (8 * (j - 6))) 5) (again frame))
 
 onto-some : (to : ℕ → ℕ) (from frame j : ℕ) (x : Operand) → 0 < length (spellings spelling (settled to from (onto_stack frame j x)))
 onto-some to from frame j (operand.Reg r) = some-spelled [] (instr.Store St64 4 (pos (8 * (j - 6))) (register_of X86_64 r)) []
-onto-some to from frame j (operand.Number v) = behind-some to from frame j (into 5 (operand.Number v))
-onto-some to from frame j (operand.Host name) = behind-some to from frame j (into 5 (operand.Host name))
-onto-some to from frame j (operand.Label l) = behind-some to from frame j (into 5 (operand.Label l))
-onto-some to from frame j (operand.Slot k) = behind-some to from frame j (into 5 (operand.Slot k))
+onto-some to from frame j (operand.Number v) = after-some to from frame j (into 5 (operand.Number v))
+onto-some to from frame j (operand.Host name) = after-some to from frame j (into 5 (operand.Host name))
+onto-some to from frame j (operand.Label l) = after-some to from frame j (into 5 (operand.Label l))
+onto-some to from frame j (operand.Slot k) = after-some to from frame j (into 5 (operand.Slot k))
 
 pub has-push-code : (code : List ℕ) (trash : ℕ) → HasPushCode (x86_rows code trash) x86_push
 has-push-code code trash frame to from j x few slots words = by (nat_lt j 6)

@@ -34,11 +34,11 @@ use Rattle.lg_carry.proofs.OfNodes.ByteLemmas.{stored-same}
 use Rattle.lg_carry.specs.Memory.Accesses.{Address, Base, address_of}
 use Rattle.lg_carry.specs.Memory.Operands.{named}
 use Rattle.lg_carry.specs.Memory.Stores.{IsOffSlots, StoreDoes}
-use Rattle.lg_carry.proofs.OfMemory.BehindLemmas.{more-slots}
+use Rattle.lg_carry.proofs.OfMemory.AfterLemmas.{more-slots}
 use Rattle.lg_selx_values.proofs.RegisterLemmas.{put-other}
 use Rattle.lg_selx.specs.Memory.Accesses.{store_row, place_of, store_from}
 use Rattle.lg_selx.proofs.OfMemory.EndLemmas.{makes-leads, access-above, some-spelled}
-use Rattle.lg_selx.proofs.OfMemory.PlaceLemmas.{none-behind, placed}
+use Rattle.lg_selx.proofs.OfMemory.PlaceLemmas.{none-after, placed}
 use Rattle.lg_selx.proofs.OfMemory.TemporaryLemmas.{IsSpare, is_computed}
 
 -- a row stores by its type, wherever the address lies
@@ -91,9 +91,9 @@ module _ (code : List ℕ) (trash : ℕ) (choices : List Choice) (u frame : ℕ)
         registers = w;
         end = stored bytes a wide (w rb);
         above =
-            (access-above w rr (pos 0) a wide (w 4) (x86.store_width (store_row t)) refl (none-behind (w rr) (f.seen.words rr) ∙ address) (store-wide t) safe, λ z e. tt);
+            (access-above w rr (pos 0) a wide (w 4) (x86.store_width (store_row t)) refl (none-after (w rr) (f.seen.words rr) ∙ address) (store-wide t) safe, λ z e. tt);
         makes_it = ap (option_and_then (makes []))
-            (store-made t (scene w s.flags bytes) rr (pos 0) rb a (w rb) (none-behind (w rr) (f.seen.words rr) ∙ address) (writable bytes same) refl);
+            (store-made t (scene w s.flags bytes) rr (pos 0) rb a (w rb) (none-after (w rr) (f.seen.words rr) ∙ address) (writable bytes same) refl);
         registers_are = λ x free. refl;
         bytes_are = λ y out. stored-same s.bytes bytes a wide (w rb) y (same y out);
         slots_are = λ y on. slots-kept bytes (w 5) (spilled choices) a wide (w rb) y most off on;

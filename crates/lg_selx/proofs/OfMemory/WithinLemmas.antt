@@ -56,8 +56,8 @@ place-within t (Index a v) h = by (is_half v)
     by true = tt
     by false = (number t v h, ((h, tt), tt))
 
-behind-within : (frame : ℕ) (p : Place) → Within (behind frame p)
-behind-within frame p = by p.spare (p.base == 5)
+after-within : (frame : ℕ) (p : Place) → Within (behind frame p)
+after-within frame p = by p.spare (p.base == 5)
   where
     by : (a c : Bool) → Within (if a then (if c then again frame else []) else [])
     by true true = ((refl, tt), tt)
@@ -65,7 +65,7 @@ behind-within frame p = by p.spare (p.base == 5)
     by false c = tt
 
 around : (frame : ℕ) (p : Place) (i : Instr) → Within p.code → WritesWithin false i → Within (p.code ++ i ∷ behind frame p)
-around frame p i h k = join p.code (i ∷ behind frame p) h (k, behind-within frame p)
+around frame p i h k = join p.code (i ∷ behind frame p) h (k, after-within frame p)
 
 load-spare-in : (d : ℕ) (at : Address) → In d → In (load_spare d at)
 load-spare-in d at h = by (indexes d at)

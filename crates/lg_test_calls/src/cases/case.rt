@@ -96,7 +96,7 @@ pub fn parse_case(block: &str) -> Option<Case<'_>> {
 }
 
 /// Returns the words of a case, after options.
-pub fn words_behind(
+pub fn words_after(
     alloc: Global,
     options: &str,
     case: Case<'_>,

@@ -7,7 +7,7 @@ ghost use Rattle.lg_lex.specs.declared.token.TokenKind.TheVariants as kind;
 ghost use Rattle.lg_node.specs.Nodes.{is_word, with_node};
 ghost use Rattle.lg_tst.specs.Answers.{Gives, GivesWith, HasRoom};
 ghost use Rattle.lg_operand.specs.Operands.{stays_apart};
-ghost use Rattle.lg_tst.specs.Operands.{name_operand, names_behind, operand_at};
+ghost use Rattle.lg_tst.specs.Operands.{name_operand, names_after, operand_at};
 ghost use Rattle.lg_tst.specs.Streams.{IsToken};
 ghost use Rattle.lg_tst.specs.Units.{at_line, token_text, noted_by, noted, operand_of, operands, written_forms, all_operands, instruction, most_nodes};
 
@@ -16,7 +16,7 @@ use lg_base::{HostName, RefusalKind, Stop};
 use lg_lex::{Token, TokenKind};
 use lg_op::{Form, Node, Op, Operand, Operands, PlainOp};
 use lg_operand::{
-    admitted, argument_named, behind_mark, host_operand, local_named, local_size, register_operand,
+    admitted, after_mark, argument_named, host_operand, local_named, local_size, register_operand,
     stays_apart,
 };
 
@@ -51,7 +51,7 @@ impl Parser<'_> {
     fn new_argument(&mut self, word: &[u8], line: u32) -> Result<Operand, Stop>
         requires room { HasRoom self.old }
         ensures gives { GivesWith result self.new (at_line line (name_operand Form.NewArgument self.old.names word.now)) record self.old
-            { names = names_behind Form.NewArgument [] self.old.names word.now } }
+            { names = names_after Form.NewArgument [] self.old.names word.now } }
         ensures form { IfOk result (λ x. admits Form.NewArgument x ≡ true) }
         ensures nodes { length self.new.list.nodes ≡ length self.old.list.nodes }
     {
@@ -65,7 +65,7 @@ impl Parser<'_> {
     fn new_local(&mut self, done: &[Operand], word: &[u8], line: u32) -> Result<Operand, Stop>
         requires room { HasRoom self.old }
         ensures gives { GivesWith result self.new (at_line line (name_operand Form.NewLocal self.old.names word.now)) record self.old
-            { names = names_behind Form.NewLocal done.now self.old.names word.now } }
+            { names = names_after Form.NewLocal done.now self.old.names word.now } }
         ensures form { IfOk result (λ x. admits Form.NewLocal x ≡ true) }
         ensures nodes { length self.new.list.nodes ≡ length self.old.list.nodes }
     {
@@ -85,7 +85,7 @@ impl Parser<'_> {
     ) -> Result<Operand, Stop>
         requires room { HasRoom self.old }
         ensures gives { GivesWith result self.new (at_line line (name_operand form self.old.names word.now)) record self.old
-            { names = names_behind form done.now self.old.names word.now } }
+            { names = names_after form done.now self.old.names word.now } }
         ensures form { IfOk result (λ x. admits form x ≡ true) }
         ensures nodes { length self.new.list.nodes ≡ length self.old.list.nodes }
     {
@@ -118,10 +118,10 @@ impl Parser<'_> {
         match token.kind {
             TokenKind::Register => at_line(register_operand(form, text), token.line),
             TokenKind::Host => at_line(
-                host_operand(form, HostName::by_name(behind_mark(text))),
+                host_operand(form, HostName::by_name(after_mark(text))),
                 token.line,
             ),
-            TokenKind::Name => self.name_operand(form, done, behind_mark(text), token.line),
+            TokenKind::Name => self.name_operand(form, done, after_mark(text), token.line),
             TokenKind::Word => self.label_operand(form, text, token.line),
             TokenKind::Number | TokenKind::Character | TokenKind::Expression => {
                 at_line(admitted(form, Operand::Number(token.value)), token.line)

@@ -25,14 +25,14 @@ pub overflow_cast-passed : goal.overflow_cast-passed
 overflow_cast-passed c =
     let f = few c.args.target c.args.nodes.now c.args.live.now c.nodes.list.items c.nodes.passed c.nodes.saved c.nodes.index c.requires.accepted (let lt = c.nodes-test.true in let e = c.len-index-end.ensures in omega (arith, lt, e)) c.nodes.invariant in omega (arith, f)
 
-pub pushed_behind-passed-requires : goal.pushed_behind-passed-requires
-pushed_behind-passed-requires c =
+pub pushed_after-passed-requires : goal.pushed_after-passed-requires
+pushed_after-passed-requires c =
     few c.args.target c.args.nodes.now c.args.live.now c.nodes.list.items c.nodes.passed c.nodes.saved c.nodes.index c.requires.accepted (let lt = c.nodes-test.true in let e = c.len-index-end.ensures in omega (arith, lt, e)) c.nodes.invariant
 
 pub nodes-preserved : goal.nodes-preserved
 nodes-preserved c =
-    subst (λ xs. AreCounted c.args.target c.args.nodes.now c.args.live.now xs c.pushed_behind-passed.result c.in-Some.more (c.nodes.index + 1)) (sym (c.in_ok-push.ensures.items))
-    (subst (λ k. AreCounted c.args.target c.args.nodes.now c.args.live.now (c.nodes.list.items ++ c.nodes.passed ∷ []) k c.in-Some.more (c.nodes.index + 1)) (sym c.pushed_behind-passed.ensures)
+    subst (λ xs. AreCounted c.args.target c.args.nodes.now c.args.live.now xs c.pushed_after-passed.result c.in-Some.more (c.nodes.index + 1)) (sym (c.in_ok-push.ensures.items))
+    (subst (λ k. AreCounted c.args.target c.args.nodes.now c.args.live.now (c.nodes.list.items ++ c.nodes.passed ∷ []) k c.in-Some.more (c.nodes.index + 1)) (sym c.pushed_after-passed.ensures)
     (one-counted c.args.target c.args.nodes.now c.args.live.now c.nodes.list.items c.nodes.passed c.nodes.saved c.nodes.index c.node.result c.in-Some.more c.requires.accepted
     (let lt = c.nodes-test.true in let e = c.len-index-end.ensures in omega (arith, lt, e)) c.nodes.invariant (sym c.node.ensures.node)
     (sum c.nodes.saved c.saved_at.result c.in-Some.more (grind (arith, c.in-Some.ensures)) ∙ ap (λ k. c.nodes.saved + k) c.saved_at.ensures)))

@@ -4,14 +4,14 @@ use Rattle.lg_op.specs.declared.operand.Reg.{Reg}
 use Rattle.lg_node.specs.Nodes.{LabelledNodes, with_node}
 use Rattle.lg_dead.specs.Known.{folded}
 use Rattle.lg_dead.specs.Tables.{known_of}
-use Rattle.lg_dead.proofs.FoldListLemmas.{first-folded, first-behind, next-folded, next-behind}
+use Rattle.lg_dead.proofs.FoldListLemmas.{first-folded, first-after, next-folded, next-after}
 use Rattle.lg_dead.proofs.list.push_folded.Goals as goal
 
 pub loop-index-init : goal.loop-index-init
 loop-index-init c = record {
   list = refl;
   folded = first-folded c.args.nodes.now c.args.list.now.nodes c.requires.empty;
-  known = first-behind c.args.nodes.now c.args.list.now.nodes c.none-known.result c.none-known.ensures;
+  known = first-after c.args.nodes.now c.args.list.now.nodes c.none-known.result c.none-known.ensures;
 }
 
 pub loop-index-preserved : goal.loop-index-preserved
@@ -31,5 +31,5 @@ loop-index-preserved c =
     record {
       list = c.in_ok-push_next.ensures.list ∙ ap (λ (x : LabelledNodes). with_node x k) c.loop-index.invariant.list ∙ ap (λ ys. record c.args.list.now { nodes = ys }) (sym grown);
       folded = next-folded l ns ms i n k c.loop-index.invariant.folded here f known refl grown;
-      known = next-behind l ns ms i n k c.loop-index.invariant.folded here f known refl grown g c.in_ok-push_next.ensures.known;
+      known = next-after l ns ms i n k c.loop-index.invariant.folded here f known refl grown g c.in_ok-push_next.ensures.known;
     }

@@ -4,7 +4,7 @@ use Rattle.std.specs.Option.{option_flatten}
 use Rattle.lg_node.specs.Preparations.{prepared_before}
 use Rattle.lg_node.proofs.WalkLemmas.{varies_start}
 use Rattle.lg_explain.specs.Blames.{bad_call_at, first_of, label_at, of_node}
-use Rattle.lg_explain.specs.Calls.{variadic_behind, varies_by}
+use Rattle.lg_explain.specs.Calls.{variadic_after, varies_by}
 use Rattle.lg_explain.proofs.BlameLemmas.{at_node, first_found, first_on, first_start}
 use Rattle.lg_explain.proofs.CallLemmas.{bad_gives, bad_here, between_is, variadic_on, variadic_start, varies_next}
 use Rattle.lg_explain.proofs.calls.first_between.Goals as goal
@@ -50,7 +50,7 @@ loop-index-preserved c =
     let labelled = c.label_at-label.ensures.labelled ∙ sym c.is_some.ensures in
     let bad = bad_here l i n c.loop-index.call c.loop-index.varies _ _ h.call h.varies labelled c.is_bad.ensures ∙ c.if-is_bad.false in
     record {
-      call = c.variadic_behind-call.ensures ∙ ap (λ (o : Option Bool). variadic_behind o n.op) h.call ∙ sym (variadic_on l.nodes i n e);
+      call = c.variadic_after-call.ensures ∙ ap (λ (o : Option Bool). variadic_after o n.op) h.call ∙ sym (variadic_on l.nodes i n e);
       varies = c.varies_by-varies.ensures ∙ (λ j. varies_by (h.varies j) (h.call j) n.op) ∙ sym (varies_next l.nodes i n e);
       none = first_on (of_node (bad_call_at l) l) i h.none (at_node (bad_call_at l) l i n e ∙ bad_gives l i n false bad);
     }

@@ -4,11 +4,11 @@ use Rattle.lg_lex.specs.Tokens.{AreInOrder}
 use Rattle.lg_lex.specs.declared.token.Token.{Token}
 use Rattle.lg_tst.specs.Streams.{text_of}
 use Rattle.lg_explain.specs.Lines.{shown}
-use Rattle.lg_explain.specs.Misfits.{first_misfit, misfit, misfit_from, word_behind}
-use Rattle.lg_explain.specs.Unknown.{forms_behind, part_behind, rest_behind}
+use Rattle.lg_explain.specs.Misfits.{first_misfit, misfit, misfit_from, word_after}
+use Rattle.lg_explain.specs.Unknown.{forms_after, part_after, rest_after}
 use Rattle.lg_explain.specs.declared.place.Part.TheVariants.{First}
 use Rattle.lg_explain.specs.declared.place.Rest.TheVariants.{Nothing}
-use Rattle.lg_explain.proofs.MisfitLemmas.{at_end, found_here, left_behind, next}
+use Rattle.lg_explain.proofs.MisfitLemmas.{at_end, found_here, left_after, next}
 use Rattle.lg_explain.proofs.misfit.first_misfit.Goals.{in_default, in_default-2}
 use Rattle.lg_explain.proofs.misfit.first_misfit.Goals as goal
 
@@ -45,13 +45,13 @@ loop-token-preserved c =
     let l = c.loop-token in
     let h = next text _ _ _ _ _ _ _ _ _ token l.invariant c.next.ensures (c.in-Ok-Some.is ∙ ap (λ o. Ok o) c.in-Ok-Some.field-0-is) in
     let bytes : c.text_of-bytes.result.now ≡ text_of text token = c.text_of-bytes.ensures in
-    left_behind text (first_misfit text) token c.next.new.self l.part l.left.now l.rest l.word.now l.before.now
-    c.part_behind-part.result c.forms_behind-left.result.now c.rest_behind-rest.result c.word_behind-word.result.now c.text_of-bytes.result.now h
+    left_after text (first_misfit text) token c.next.new.self l.part l.left.now l.rest l.word.now l.before.now
+    c.part_after-part.result c.forms_after-left.result.now c.rest_after-rest.result c.word_after-word.result.now c.text_of-bytes.result.now h
     (sym c.in_default-misfit.is ∙ c.misfit.ensures ∙ ap (λ b. option_map shown (misfit l.left.now l.rest l.word.now l.before.now token.kind b token.value)) bytes)
-    (c.part_behind-part.ensures ∙ ap (λ b. part_behind l.part l.left.now l.rest token.kind b) bytes)
-    (c.forms_behind-left.ensures ∙ ap (λ b. forms_behind l.part l.left.now l.rest token.kind b) bytes)
-    (c.rest_behind-rest.ensures ∙ ap (λ b. rest_behind l.part l.left.now l.rest token.kind b) bytes)
-    (c.word_behind-word.ensures ∙ ap (λ b. word_behind l.left.now l.rest l.word.now token.kind b) bytes)
+    (c.part_after-part.ensures ∙ ap (λ b. part_after l.part l.left.now l.rest token.kind b) bytes)
+    (c.forms_after-left.ensures ∙ ap (λ b. forms_after l.part l.left.now l.rest token.kind b) bytes)
+    (c.rest_after-rest.ensures ∙ ap (λ b. rest_after l.part l.left.now l.rest token.kind b) bytes)
+    (c.word_after-word.ensures ∙ ap (λ b. word_after l.left.now l.rest l.word.now token.kind b) bytes)
     bytes
 
 pub returns : goal.returns

@@ -4,8 +4,8 @@ use Rattle.lg_lex.specs.Tokens.{AreInOrder}
 use Rattle.lg_lex.specs.declared.token.Token.{Token}
 use Rattle.lg_tst.specs.Streams.{text_of}
 use Rattle.lg_explain.specs.Lines.{shown}
-use Rattle.lg_explain.specs.Twice.{again, forms_behind, labels_behind, made_twice, names_behind, twice_from}
-use Rattle.lg_explain.proofs.TwiceLemmas.{at_end, found_here, left_behind, next}
+use Rattle.lg_explain.specs.Twice.{again, forms_after, labels_after, made_twice, names_after, twice_from}
+use Rattle.lg_explain.proofs.TwiceLemmas.{at_end, found_here, left_after, next}
 use Rattle.lg_explain.proofs.twice.first_again.Goals.{in_default, in_default-2}
 use Rattle.lg_explain.proofs.twice.first_again.Goals as goal
 
@@ -42,11 +42,11 @@ loop-token-preserved c =
     let l = c.loop-token in
     let h = next text _ _ _ _ _ _ _ token l.invariant c.next.ensures (c.in-Ok-Some.is ∙ ap (λ o. Ok o) c.in-Ok-Some.field-0-is) in
     let bytes : c.text_of-bytes.result.now ≡ text_of text token = c.text_of-bytes.ensures in
-    left_behind text (made_twice text) token c.next.new.self l.labels l.names l.forms.now c.make_label.new.labels c.make_name.new.names c.forms_behind-forms.result.now h
+    left_after text (made_twice text) token c.next.new.self l.labels l.names l.forms.now c.make_label.new.labels c.make_name.new.names c.forms_after-forms.result.now h
     (sym c.in_default-again.is ∙ c.again.ensures ∙ ap (λ b. option_map shown (again l.forms.now token.kind b l.labels l.names)) bytes)
-    (c.in_ok-make_label.ensures ∙ ap (λ b. labels_behind l.forms.now token.kind b l.labels) bytes)
-    (c.in_ok-make_name.ensures ∙ ap (λ b. names_behind l.forms.now token.kind b l.names) bytes)
-    (c.forms_behind-forms.ensures ∙ ap (λ b. forms_behind l.forms.now token.kind b) bytes)
+    (c.in_ok-make_label.ensures ∙ ap (λ b. labels_after l.forms.now token.kind b l.labels) bytes)
+    (c.in_ok-make_name.ensures ∙ ap (λ b. names_after l.forms.now token.kind b l.names) bytes)
+    (c.forms_after-forms.ensures ∙ ap (λ b. forms_after l.forms.now token.kind b) bytes)
 
 pub returns : goal.returns
 returns c =

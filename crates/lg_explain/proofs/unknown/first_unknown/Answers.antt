@@ -4,10 +4,10 @@ use Rattle.lg_lex.specs.Tokens.{AreInOrder}
 use Rattle.lg_lex.specs.declared.token.Token.{Token}
 use Rattle.lg_tst.specs.Streams.{text_of}
 use Rattle.lg_explain.specs.Lines.{shown}
-use Rattle.lg_explain.specs.Unknown.{first_unknown, forms_behind, part_behind, rest_behind, unknown, unknown_from}
+use Rattle.lg_explain.specs.Unknown.{first_unknown, forms_after, part_after, rest_after, unknown, unknown_from}
 use Rattle.lg_explain.specs.declared.place.Part.TheVariants.{First}
 use Rattle.lg_explain.specs.declared.place.Rest.TheVariants.{Nothing}
-use Rattle.lg_explain.proofs.UnknownLemmas.{at_end, found_here, left_behind, next}
+use Rattle.lg_explain.proofs.UnknownLemmas.{at_end, found_here, left_after, next}
 use Rattle.lg_explain.proofs.unknown.first_unknown.Goals.{in_default, in_default-2}
 use Rattle.lg_explain.proofs.unknown.first_unknown.Goals as goal
 
@@ -44,11 +44,11 @@ loop-token-preserved c =
     let l = c.loop-token in
     let h = next text _ _ _ _ _ _ _ token l.invariant c.next.ensures (c.in-Ok-Some.is ∙ ap (λ o. Ok o) c.in-Ok-Some.field-0-is) in
     let bytes : c.text_of-bytes.result.now ≡ text_of text token = c.text_of-bytes.ensures in
-    left_behind text (first_unknown text) token c.next.new.self l.part l.forms.now l.rest c.part_behind-part.result c.forms_behind-forms.result.now c.rest_behind-rest.result h
+    left_after text (first_unknown text) token c.next.new.self l.part l.forms.now l.rest c.part_after-part.result c.forms_after-forms.result.now c.rest_after-rest.result h
     (sym c.in_default-unknown.is ∙ c.unknown.ensures ∙ ap (λ b. option_map shown (unknown l.part l.forms.now l.rest token.kind b)) bytes)
-    (c.part_behind-part.ensures ∙ ap (λ b. part_behind l.part l.forms.now l.rest token.kind b) bytes)
-    (c.forms_behind-forms.ensures ∙ ap (λ b. forms_behind l.part l.forms.now l.rest token.kind b) bytes)
-    (c.rest_behind-rest.ensures ∙ ap (λ b. rest_behind l.part l.forms.now l.rest token.kind b) bytes)
+    (c.part_after-part.ensures ∙ ap (λ b. part_after l.part l.forms.now l.rest token.kind b) bytes)
+    (c.forms_after-forms.ensures ∙ ap (λ b. forms_after l.part l.forms.now l.rest token.kind b) bytes)
+    (c.rest_after-rest.ensures ∙ ap (λ b. rest_after l.part l.forms.now l.rest token.kind b) bytes)
 
 pub returns : goal.returns
 returns c =

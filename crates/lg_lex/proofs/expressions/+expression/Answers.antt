@@ -85,4 +85,4 @@ inner_whole-returns-clause-value t c =
 
 pub whole-returns-in-None-clause-value : goal.whole-returns-in-None-clause-value
 whole-returns-in-None-clause-value t c =
-    sym (whole_plain c.args.bytes.now c.args.levels c.args.place c.in_ok-test.test (sym c.binary.ensures.value ∙ c.in_ok-test.was) (sym c.behind_byte.ensures.value ∙ c.in-None.is))
+    sym (whole_plain c.args.bytes.now c.args.levels c.args.place c.in_ok-test.test (sym c.binary.ensures.value ∙ c.in_ok-test.was) (sym c.after_byte.ensures.value ∙ c.in-None.is))

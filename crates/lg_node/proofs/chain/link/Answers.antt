@@ -16,6 +16,6 @@ returns-clause-chain c = λ at more chain free j.
     let first_apart : e.first.0 ≢ c.args.label.0 = apart at e.first.0 c.args.label.0 first_bound free in
     let first : e.first.0 < c.args.label.0 = below e.first.0 c.args.label.0 c.if-label-ends.false first_apart in
     let b = c.label_before-before in
-    behind at more c.args.label.0 free j c.args.next.now c.put_behind-2.new.next c.args.ends (Some e) b.result.0 c.args.label refl
+    behind at more c.args.label.0 free j c.args.next.now c.put_after-2.new.next c.args.ends (Some e) b.result.0 c.args.label refl
     (b.ensures.bound at c.args.ends chain first_bound) b.ensures.before (b.ensures.none at c.args.ends chain first_bound free) c.requires.label chain
-    (ends-around at more c.args.label.0 free j e first c.if-ends-label.false here.bounds) c.put_behind-2.ensures
+    (ends-around at more c.args.label.0 free j e first c.if-ends-label.false here.bounds) c.put_after-2.ensures

@@ -1,5 +1,5 @@
 use Rattle.std.proofs.Common.{◌≡◌, ℕ, Option, None, length, sym, ap, ◌∙◌, arith}
-use Rattle.lg_node.specs.Functions.{home, home_of, open_behind}
+use Rattle.lg_node.specs.Functions.{home, home_of, open_after}
 use Rattle.lg_node.proofs.TableLemmas.{count_push, table_push, table_all}
 use Rattle.lg_node.proofs.WalkLemmas.{home_here, home_past, open_start, open_on}
 use Rattle.lg_node.proofs.tables.homes.Goals as goal
@@ -23,7 +23,7 @@ loop-index-preserved c =
       count = count_push c.loop-index.homes.items c.push_reserved.new.self.items c.home_of-home.result i c.push_reserved.ensures.items c.loop-index.invariant.count;
       room = omega (arith, c.push_reserved.ensures.capacity, c.loop-index.invariant.room);
       homes = table_push (home c.args.nodes.now.nodes) c.loop-index.homes.items c.push_reserved.new.self.items c.home_of-home.result None i c.push_reserved.ensures.items c.loop-index.invariant.count home_is c.loop-index.invariant.homes;
-      current = c.open_behind-current.ensures ∙ ap (λ (o : Option ℕ). open_behind o c.node_at.result.now.op) (home_is ∙ home_here c.args.nodes.now.nodes i c.node_at.result.now (sym c.node_at.ensures.node)) ∙ sym (open_on c.args.nodes.now.nodes i c.node_at.result.now (sym c.node_at.ensures.node));
+      current = c.open_after-current.ensures ∙ ap (λ (o : Option ℕ). open_after o c.node_at.result.now.op) (home_is ∙ home_here c.args.nodes.now.nodes i c.node_at.result.now (sym c.node_at.ensures.node)) ∙ sym (open_on c.args.nodes.now.nodes i c.node_at.result.now (sym c.node_at.ensures.node));
     }
 
 pub returns : goal.returns

@@ -4,14 +4,14 @@ use Rattle.lg_op.specs.declared.operand.Reg.{Reg}
 use Rattle.lg_node.proofs.FunctionLaws.{node_within}
 use Rattle.lg_opt.specs.Moves.{stays}
 use Rattle.lg_opt.specs.SourceTables.{source_of}
-use Rattle.lg_opt.proofs.SourceLemmas.{first-behind, next-behind, stays-is, more-stays}
+use Rattle.lg_opt.proofs.SourceLemmas.{first-after, next-after, stays-is, more-stays}
 use Rattle.lg_opt.proofs.moves.staying.Goals as goal
 
 pub loop-index-init : goal.loop-index-init
 loop-index-init c = record {
   count = ap length c.in_ok-table.ensures.items;
   stays = λ i lt. absurd (omega (arith, ap length c.in_ok-table.ensures.items, lt));
-  sources = first-behind c.args.nodes.now c.none-sources.result c.none-sources.ensures;
+  sources = first-after c.args.nodes.now c.none-sources.result c.none-sources.ensures;
 }
 
 pub loop-index-preserved : goal.loop-index-preserved
@@ -29,5 +29,5 @@ loop-index-preserved c =
     record {
       count = ap length grown ∙ length-append c.loop-index.table.items (c.look.result ∷ []) ∙ ap (λ k. k + 1) c.loop-index.invariant.count;
       stays = rw grown (more-stays l c.loop-index.table.items c.look.result c.loop-index.invariant.stays (stay ∙ ap (stays l) (sym c.loop-index.invariant.count)));
-      sources = next-behind l i n here c.meet.new.sources are c.look.new.sources (c.look.ensures.behind n here);
+      sources = next-after l i n here c.meet.new.sources are c.look.new.sources (c.look.ensures.behind n here);
     }

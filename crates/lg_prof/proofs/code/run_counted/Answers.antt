@@ -6,7 +6,7 @@ use Rattle.lg_cpu.specs.Machines.{SaysAfter, StepShows, shown}
 use Rattle.lg_cpu.specs.Series.{effect_at, run_from}
 use Rattle.lg_cpu.specs.declared.answer.CpuStep.TheVariants as cpu
 use Rattle.lg_cpu.proofs.SeriesLemmas.{at_start, then_at}
-use Rattle.lg_prof.specs.Spent.{has_run, line_behind, spent, table_line}
+use Rattle.lg_prof.specs.Spent.{has_run, line_after, spent, table_line}
 use Rattle.lg_prof.proofs.SumLemmas.{counted_few, counted_zero, made_more}
 use Rattle.lg_prof.proofs.SpentLemmas.{ended, line_below, line_more, none_behind, went}
 use Rattle.lg_prof.proofs.TableLemmas.{in_table}
@@ -22,7 +22,7 @@ loop-went-init g c =
       steps = c.requires.first;
       faults = refl;
       kept = refl;
-      spent = λ line. c.requires.none line ∙ sym (counted_zero (has_run (run_from start)) (λ k. line_behind lines (run_from start) (suc k)) line);
+      spent = λ line. c.requires.none line ∙ sym (counted_zero (has_run (run_from start)) (λ k. line_after lines (run_from start) (suc k)) line);
       ran = λ line. refl;
       line = sym (none_behind lines (run_from start));
       below = c.requires.some;
@@ -42,7 +42,7 @@ spent-requires-clause-few g c =
     let start = shown c.args.cpu.now in
     let lines = table_line c.args.lines.now in
     let at = c.line_at-line.result in
-    let few = counted_few (has_run (run_from start)) (λ k. line_behind lines (run_from start) (suc k)) at c.loop-went._went in
+    let few = counted_few (has_run (run_from start)) (λ k. line_after lines (run_from start) (suc k)) at c.loop-went._went in
     let is = i.spent at in
     omega (arith, few, is, c.loop-went-test.true, c.requires.most)
 
@@ -60,7 +60,7 @@ spent-requires-in-Ended-clause-few g c =
     let start = shown c.args.cpu.now in
     let lines = table_line c.args.lines.now in
     let at = c.line_at-line.result in
-    let few = counted_few (has_run (run_from start)) (λ k. line_behind lines (run_from start) (suc k)) at c.loop-went._went in
+    let few = counted_few (has_run (run_from start)) (λ k. line_after lines (run_from start) (suc k)) at c.loop-went._went in
     let is = i.spent at in
     omega (arith, few, is, c.loop-went-test.true, c.requires.most)
 
@@ -77,13 +77,13 @@ returns-in-Ended-clause-spent g c =
     let h : StepShows (effect_at here) here new (g.O.Sink.taken c.loop-went.out) (g.O.Sink.taken c.step.new.out) (g.O.Sink.faults c.loop-went.out) (g.O.Sink.faults c.step.new.out) (cpu.Ended c.in-Ended.status) =
     subst (λ a. SaysAfter a (effect_at here) here new (g.O.Sink.taken c.loop-went.out) (g.O.Sink.taken c.step.new.out) (g.O.Sink.faults c.loop-went.out) (g.O.Sink.faults c.step.new.out) (cpu.Ended c.in-Ended.status)) i.going c.in-Ended.ensures.says in
     let made = ended start here n i.there.0 i.there.1 i.going c.in-Ended.status h.0 in
-    let line : line_behind lines run (suc n) ≡ at = line_more lines run n
-    ∙ ap (λ pc. unwrap_or (lines pc) (line_behind lines run n)) (sym (ap (λ r. r.state.pc) i.there.1.stands) ∙ sym c.pc.ensures)
+    let line : line_after lines run (suc n) ≡ at = line_more lines run n
+    ∙ ap (λ pc. unwrap_or (lines pc) (line_after lines run n)) (sym (ap (λ r. r.state.pc) i.there.1.stands) ∙ sym c.pc.ensures)
     ∙ ap (λ l. unwrap_or (lines c.pc.result) l) (sym i.line) ∙ sym c.line_at-line.ensures in
     let first = i.steps in
     let steps : c.step.new.self.steps ≡ n + 1 = ap (λ q. q.steps) h.1 ∙ ap (λ x. counted x here.steps) (sym h.0) ∙ ap (λ k. k + 1) first in
     λ l. c.spent-in-Ended.ensures.spent l ∙ ap (λ k. if l == at then k + 1 else k) (i.spent l)
-    ∙ sym (made_more (has_run run) (λ k. line_behind lines run (suc k)) l n at made line) ∙ ap (spent lines run l) (sym steps)
+    ∙ sym (made_more (has_run run) (λ k. line_after lines run (suc k)) l n at made line) ∙ ap (spent lines run l) (sym steps)
 
 pub loop-went-preserved : goal.loop-went-preserved
 loop-went-preserved g c =
@@ -98,8 +98,8 @@ loop-went-preserved g c =
     let h : StepShows (effect_at here) here new (g.O.Sink.taken c.loop-went.out) (g.O.Sink.taken c.step.new.out) (g.O.Sink.faults c.loop-went.out) (g.O.Sink.faults c.step.new.out) cpu.Went =
     subst (λ a. SaysAfter a (effect_at here) here new (g.O.Sink.taken c.loop-went.out) (g.O.Sink.taken c.step.new.out) (g.O.Sink.faults c.loop-went.out) (g.O.Sink.faults c.step.new.out) cpu.Went) i.going c.in-Went.ensures.says in
     let made = went start here n i.there.0 i.there.1 i.going h.0 in
-    let line : line_behind lines run (suc n) ≡ at = line_more lines run n
-    ∙ ap (λ pc. unwrap_or (lines pc) (line_behind lines run n)) (sym (ap (λ r. r.state.pc) i.there.1.stands) ∙ sym c.pc.ensures)
+    let line : line_after lines run (suc n) ≡ at = line_more lines run n
+    ∙ ap (λ pc. unwrap_or (lines pc) (line_after lines run n)) (sym (ap (λ r. r.state.pc) i.there.1.stands) ∙ sym c.pc.ensures)
     ∙ ap (λ l. unwrap_or (lines c.pc.result) l) (sym i.line) ∙ sym c.line_at-line.ensures in
     let below = line_below (table_line c.args.lines.now c.pc.result) c.loop-went.line (length c.args.tally.now)
     (λ line e. c.requires.lines _ line (in_table c.args.lines.now c.pc.result line e)) i.below in
@@ -113,8 +113,8 @@ loop-went-preserved g c =
       steps = ap (λ q. q.steps) h.1 ∙ ap (λ x. counted x here.steps) (sym h.0) ∙ ap (λ k. k + 1) i.steps;
       faults = h.3 ∙ i.faults;
       kept = c.spent.ensures.lines ∙ i.kept;
-      spent = λ l. c.spent.ensures.spent l ∙ ap (λ k. if l == at then k + 1 else k) (i.spent l) ∙ sym (made_more (has_run run) (λ k. line_behind lines run (suc k)) l n at made line);
+      spent = λ l. c.spent.ensures.spent l ∙ ap (λ k. if l == at then k + 1 else k) (i.spent l) ∙ sym (made_more (has_run run) (λ k. line_after lines run (suc k)) l n at made line);
       ran = λ l. c.spent.ensures.ran l ∙ i.ran l;
-      line = let more : n + 1 ≡ suc n = omega arith in sym line ∙ ap (line_behind lines run) (sym more);
+      line = let more : n + 1 ≡ suc n = omega arith in sym line ∙ ap (line_after lines run) (sym more);
       below = rw c.line_at-line.ensures below;
     }

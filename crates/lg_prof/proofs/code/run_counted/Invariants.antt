@@ -4,7 +4,7 @@ use Rattle.lg_cpu.specs.Machines.{shown}
 use Rattle.lg_cpu.specs.Series.{IsAt, run_from}
 use Rattle.lg_cpu.specs.declared.answer.CpuStep.TheVariants as cpu
 use Rattle.lg_prof.specs.Tallies.{ran_at, spent_at}
-use Rattle.lg_prof.specs.Spent.{line_behind, spent, table_line}
+use Rattle.lg_prof.specs.Spent.{line_after, spent, table_line}
 use Rattle.lg_prof.proofs.code.run_counted.Given as goal
 
 abbrev pub invariant-loop-went : goal.invariant-loop-went
@@ -16,6 +16,6 @@ invariant-loop-went g l = record {
   kept : length l.tally ≡ length l.fn.tally;
   spent : (line : ℕ) → spent_at l.tally line ≡ spent (table_line l.lines) (run_from (shown l.fn.cpu)) line l._went;
   ran : (line : ℕ) → ran_at l.tally line ≡ ran_at l.fn.tally line;
-  line : l.line ≡ line_behind (table_line l.lines) (run_from (shown l.fn.cpu)) l._went;
+  line : l.line ≡ line_after (table_line l.lines) (run_from (shown l.fn.cpu)) l._went;
   below : l.line < length l.fn.tally;
 }

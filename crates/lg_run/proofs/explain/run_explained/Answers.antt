@@ -6,8 +6,8 @@ use Rattle.lg_run.proofs.MeanLemmas.{told, writes}
 use Rattle.lg_run.proofs.StuckLemmas.{step_undefined, stuck_told}
 use Rattle.lg_run.proofs.explain.run_explained.Goals as goal
 
-pub stuck_behind-requires-clause-undefined : goal.stuck_behind-requires-clause-undefined
-stuck_behind-requires-clause-undefined g c =
+pub stuck_after-requires-clause-undefined : goal.stuck_after-requires-clause-undefined
+stuck_after-requires-clause-undefined g c =
     let out = on_sink g.O.Sink.taken g.O.Sink.faults c.args.out.now c.run-end.new.out in
     let l = c.args.unit.now.nodes in
     let shape = c.args.shape.now in
@@ -37,5 +37,5 @@ returns-clause-stuck g c =
     let shape = c.args.shape.now in
     let start = c.args.machine.now in
     let new = c.run-end.new.self in
-    stuck_told c.steps_are_those_of_the_meaning.ensures l shape start.labels.addresses (state_of start.machine) c.args.most (state_of new.machine) out c.run-end.result c.answer_of.result start.steps new.steps c.steps.result new.labels.addresses c.stuck_behind.result
-    c.requires.steps c.steps.ensures c.answer_of.ensures (λ i. (c.run-end.ensures.labels i).addresses) c.run-end.ensures.says c.stuck_behind.ensures
+    stuck_told c.steps_are_those_of_the_meaning.ensures l shape start.labels.addresses (state_of start.machine) c.args.most (state_of new.machine) out c.run-end.result c.answer_of.result start.steps new.steps c.steps.result new.labels.addresses c.stuck_after.result
+    c.requires.steps c.steps.ensures c.answer_of.ensures (λ i. (c.run-end.ensures.labels i).addresses) c.run-end.ensures.says c.stuck_after.ensures

@@ -3,7 +3,7 @@ use Rattle.std.specs.Prelude.{codes, Result, Ok, Err}
 use Rattle.lg_base.specs.Arguments.{words_before_zero}
 use Rattle.lg_base.specs.Runs.{iter}
 use Rattle.lg_base.specs.declared.refusal.Refusal.{Refusal}
-use Rattle.lg_lex.specs.Blanks.{block_rest, comment_at, blank_at, behind_most_blanks, behind_blanks}
+use Rattle.lg_lex.specs.Blanks.{block_rest, comment_at, blank_at, after_most_blanks, after_blanks}
 use Rattle.lg_lex.specs.Fronts.{word_len, word_at, marked_at, marker_at, dollar_at, mark_at, token_at, front_at}
 use Rattle.lg_lex.specs.Numbers.{narrowed, digits_at, magnitude_at, suffix_at, unsigned_at, negated, number_at}
 use Rattle.lg_lex.specs.Tokens.{with_front, tokens_from, tokens_at}
@@ -21,5 +21,5 @@ read (Ok unit) = unit
 read (Err refusal) = record { nodes = record { nodes = []; words = []; places = [] }; image = [] }
 
 pub returns : goal.returns
-unfolding iter words_before_zero open_before home functions_before block_rest comment_at blank_at behind_most_blanks behind_blanks word_len word_at marked_at marker_at dollar_at mark_at token_at front_at narrowed digits_at magnitude_at suffix_at unsigned_at negated number_at with_front tokens_from tokens_at operands statements is_float_word
+unfolding iter words_before_zero open_before home functions_before block_rest comment_at blank_at after_most_blanks after_blanks word_len word_at marked_at marker_at dollar_at mark_at token_at front_at narrowed digits_at magnitude_at suffix_at unsigned_at negated number_at with_front tokens_from tokens_at operands statements is_float_word
 returns c = record { means = (read (unit_of text), refl, refl, refl) }

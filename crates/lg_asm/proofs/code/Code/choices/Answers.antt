@@ -28,9 +28,9 @@ returns c =
     subst (λ (k : Assembled). choices_at k.target k.nodes.nodes k.live c.args.index ≡ Some c.node_choices.result) c.self.view_is
     (ap (option_and_then (node_choices c.self.inside.target (live_behind c.self.inside.live c.args.index) (pushed c.self.inside.nodes.nodes c.args.index))) (sym c.node.ensures.node)
     ∙ (ap (λ k. node_choices c.self.inside.target (live_behind c.self.inside.live c.args.index) k c.node.result) (sym same)
-    ∙ (ap (λ (s : RegSet). node_choices c.self.inside.target (has s) c.index.result.now c.node.result) (sym c.set_behind-live_after.ensures) ∙ c.node_choices.ensures)))
+    ∙ (ap (λ (s : RegSet). node_choices c.self.inside.target (has s) c.index.result.now c.node.result) (sym c.set_after-live_after.ensures) ∙ c.node_choices.ensures)))
 
-pub set_behind-live_after-requires : goal.set_behind-live_after-requires
-set_behind-live_after-requires c =
+pub set_after-live_after-requires : goal.set_after-live_after-requires
+set_after-live_after-requires c =
     let h : c.args.index < length c.self.inside.nodes.nodes = subst (λ (k : Assembled). c.args.index < length k.nodes.nodes) (sym c.self.view_is) c.requires in
-    let e = c.self.invariant.code.live_are.behind_count in omega (arith, h, e)
+    let e = c.self.invariant.code.live_are.after_count in omega (arith, h, e)

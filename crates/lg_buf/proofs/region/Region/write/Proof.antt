@@ -24,7 +24,7 @@ use denote.Triple.Clauses.{lasts}
 use denote.Triple.Statement.{Contract}
 use denote.Triple.Spec.{triple_of}
 use denote.Triple.Table.{framed}
-use Rattle.lg_buf.proofs.Memory.{bytes, spare, behind_all}
+use Rattle.lg_buf.proofs.Memory.{bytes, spare, after_all}
 use Rattle.lg_buf.specs.Ownership.{lie_before_room, lie_at}
 use Rattle.lg_buf.specs.contracts.region.Region.write as f
 use Rattle.lg_buf.proofs.region.Region.write.Statement.{statement}
@@ -94,7 +94,7 @@ write_spec 𝓤 𝓛 𝓜 𝓡 wired =
     sets ! (of_opd ! (unit_lit !)) refl (tt, tt) $
     move ! (1 ∷ []) $ fsplit ! $ move ! (2 ∷ 3 ∷ []) $ shuts_slice ! tt u8 q ys sb so $
     -- [the piece's token; the piece as written; the spare room; the piece's borrow; the bytes; what the fields own; the struct's cell; the open borrow, in three entries]
-    rewrite ! 1 (λ (j : ℕ). ‵ (bytes 𝓛 b ys j)) (sym at) refl $ move ! (4 ∷ 1 ∷ []) $ use2 𝓛 (‵ (bytes 𝓛 b (xs ++ ys) o)) (behind_all 𝓛 b xs ys o) $ move ! (2 ∷ []) $
+    rewrite ! 1 (λ (j : ℕ). ‵ (bytes 𝓛 b ys j)) (sym at) refl $ move ! (4 ∷ 1 ∷ []) $ use2 𝓛 (‵ (bytes 𝓛 b (xs ++ ys) o)) (after_all 𝓛 b xs ys o) $ move ! (2 ∷ []) $
     rewrite ! 0 (λ (j : ℕ). ‵ (spare 𝓛 b m j)) (let all = length-append xs ys in let p = place_byte o (length (xs ++ ys)) in let p' = place_byte (i + o) k in let j = asked.0 in omega arith) refl $ move ! (1 ∷ 0 ∷ []) $ fjoin ! $
     rewrite ! 0 (λ (p : Ptr). ‵ (lie_before_room p (xs ++ ys) m)) (sym e) refl $ rewrite ! 4 Cell (sym word) refl $
     move ! (3 ∷ 0 ∷ []) $ fjoin ! $ move ! (3 ∷ 0 ∷ 4 ∷ 5 ∷ 6 ∷ []) $ closes ! tt R new us rb ro $

@@ -19,10 +19,10 @@ overflow_add-value c = let q = pow7 c.loop-left.value (c.args.width - c.loop-lef
 
 pub loop-left-preserved : goal.loop-left-preserved
 loop-left-preserved c = record {
-  number = loaded_more (byte_at c.args.self.now) (c.args.address + (c.loop-left.left - 1)) (c.args.width - (c.loop-left.left - 1)) (c.args.address + c.loop-left.left) (c.args.width - c.loop-left.left) c.loop-left.value c.in-Some.byte (omega arith) (omega arith) (ap byte_in (sym c.cell_behind.ensures.value) ∙ sym c.in-Some.ensures) c.loop-left.invariant.number;
+  number = loaded_more (byte_at c.args.self.now) (c.args.address + (c.loop-left.left - 1)) (c.args.width - (c.loop-left.left - 1)) (c.args.address + c.loop-left.left) (c.args.width - c.loop-left.left) c.loop-left.value c.in-Some.byte (omega arith) (omega arith) (ap byte_in (sym c.cell_after.ensures.value) ∙ sym c.in-Some.ensures) c.loop-left.invariant.number;
   bound = pow_more c.loop-left.value c.in-Some.byte (c.args.width - c.loop-left.left) (c.args.width - (c.loop-left.left - 1)) (omega arith) c.loop-left.invariant.bound (omega arith);
   below = omega arith;
 }
 
 pub returns-in-None : goal.returns-in-None
-returns-in-None c = sym (loaded_missing (byte_at c.args.self.now) c.args.address c.args.width (c.loop-left.left - 1) (omega arith) (ap byte_in (sym c.cell_behind.ensures.value) ∙ sym c.in-None.ensures))
+returns-in-None c = sym (loaded_missing (byte_at c.args.self.now) c.args.address c.args.width (c.loop-left.left - 1) (omega arith) (ap byte_in (sym c.cell_after.ensures.value) ∙ sym c.in-None.ensures))

@@ -6,7 +6,7 @@ use Rattle.lg_lex.specs.Fronts.{front_at}
 use Rattle.lg_lex.specs.Lines.{StaysInLine}
 use Rattle.lg_lex.specs.Tokens.{tokens_at}
 use Rattle.lg_lex.proofs.LineLemmas.{FrontStays, front_stays}
-use Rattle.lg_lex.proofs.TokenLemmas.{byte_behind, place_behind, place_behind_byte, one_space, piece_end, gives_end, gives_fault, skipped, space_skipped, gives_token}
+use Rattle.lg_lex.proofs.TokenLemmas.{byte_after, place_after, place_after_byte, one_space, piece_end, gives_end, gives_fault, skipped, space_skipped, gives_token}
 use Rattle.lg_lex.proofs.lexer.Lexer.next.Goals as goal
 
 pub returns-in-Nothing : goal.returns-in-Nothing
@@ -20,9 +20,9 @@ pieces-preserved-then-is_space c =
     let text = c.pieces.self-inside.text.now in
     let place = c.pieces.self-inside.place in
     let passed = c.pass_byte.ensures in
-    let here : c.byte_at-b.result ≡ slice_index (drop place.offset text) 0 = c.byte_at-b.ensures ∙ byte_behind text place.offset in
+    let here : c.byte_at-b.result ≡ slice_index (drop place.offset text) 0 = c.byte_at-b.ensures ∙ byte_after text place.offset in
     let space : is_space (slice_index (drop place.offset text) 0) ≡ true = ap is_space (sym here) ∙ sym c.is_space.ensures ∙ c.if-is_space.true in (
-      place_behind_byte text place.offset place.line c.byte_at-b.result _ _ place.fresh _ (drop place.offset text) c.pieces.invariant.0 refl here (one_space _ space).1 passed.offset passed.line passed.fresh,
+      place_after_byte text place.offset place.line c.byte_at-b.result _ _ place.fresh _ (drop place.offset text) c.pieces.invariant.0 refl here (one_space _ space).1 passed.offset passed.line passed.fresh,
       ap (tokens_at text) passed.offset ∙ space_skipped text place.offset space ∙ c.pieces.invariant.1,
     )
 
@@ -40,7 +40,7 @@ pieces-preserved c =
     let passed = c.passed-self-inside.ensures in
     let inside = c.in-Skips.ensures.inside in
     let is = ap (front_at place.fresh) (sym c.behind-bytes.ensures) ∙ sym c.front_of.ensures.value ∙ c.in-Skips.is in (
-      place_behind _ place.offset place.line c.in-Skips.n _ _ place.fresh _ _ _ c.pieces.invariant.0 c.behind-bytes.ensures c.ahead.ensures inside.1 passed.offset passed.line passed.fresh,
+      place_after _ place.offset place.line c.in-Skips.n _ _ place.fresh _ _ _ c.pieces.invariant.0 c.behind-bytes.ensures c.ahead.ensures inside.1 passed.offset passed.line passed.fresh,
       skipped _ place.offset place.line place.fresh c.pieces.invariant.0 _ c.pieces.invariant.1 c.in-Skips.n _ inside.0 (piece_end place.offset _ c.in-Skips.n _ _ c.ahead.ensures inside.1 passed.offset) is,
     )
 
@@ -48,7 +48,7 @@ pub invariant_of-self-in-Finds : goal.invariant_of-self-in-Finds
 invariant_of-self-in-Finds c =
     let place = c.pieces.self-inside.place in
     let passed = c.pass_token.ensures in
-    place_behind _ place.offset place.line c.in-Finds.n _ _ place.fresh _ _ _ c.pieces.invariant.0 c.behind-bytes.ensures c.ahead-in-Finds.ensures c.in-Finds.ensures.inside.1 passed.offset passed.line passed.fresh
+    place_after _ place.offset place.line c.in-Finds.n _ _ place.fresh _ _ _ c.pieces.invariant.0 c.behind-bytes.ensures c.ahead-in-Finds.ensures c.in-Finds.ensures.inside.1 passed.offset passed.line passed.fresh
 
 pub returns-in-Finds : goal.returns-in-Finds
 returns-in-Finds c =

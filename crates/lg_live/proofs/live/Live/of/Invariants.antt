@@ -1,5 +1,5 @@
-use Rattle.lg_live.proofs.LiveLemmas.{AreBehind}
+use Rattle.lg_live.proofs.LiveLemmas.{AreAfter}
 use Rattle.lg_live.proofs.live.Live.of.Given as goal
 
 abbrev pub invariant-loop-index : goal.invariant-loop-index
-invariant-loop-index l = AreBehind l.points.items l.after.items l.index
+invariant-loop-index l = AreAfter l.points.items l.after.items l.index

@@ -4,7 +4,7 @@ use Rattle.lg_node.specs.declared.walk.Walk.{Walk}
 use Rattle.lg_node.specs.declared.function.Function.{Function}
 use Rattle.lg_node.specs.Functions.{home, home_of, ended_at, functions_before}
 use Rattle.lg_node.specs.Tables.{number_in, number_of}
-use Rattle.lg_node.specs.Walks.{walk_behind}
+use Rattle.lg_node.specs.Walks.{walk_after}
 use Rattle.lg_node.proofs.FunctionLemmas.{functions_start, functions_on, few_on, number_past}
 use Rattle.lg_node.proofs.LimitLemmas.{limits_before}
 use Rattle.lg_node.proofs.TableLemmas.{count_push, table_push, table_all}
@@ -51,7 +51,7 @@ loop-index-preserved c =
     let number : c.number_in.result ≡ number_of nodes i =
     c.number_in.ensures ∙ ap₂ number_in (count ∙ ap length c.loop-index.invariant.functions) function in
     record {
-      walk = c.pass.ensures ∙ ap (λ (w : Walk). walk_behind w i c.node_at-node.result.now) c.loop-index.invariant.walk ∙ walk_on nodes i c.node_at-node.result.now here;
+      walk = c.pass.ensures ∙ ap (λ (w : Walk). walk_after w i c.node_at-node.result.now) c.loop-index.invariant.walk ∙ walk_on nodes i c.node_at-node.result.now here;
       functions =
           c.in_ok-push_ended.ensures
           ∙ ap₂ (λ (fs : List Function) (o : Option Function). fs ++ option_to_list o) c.loop-index.invariant.functions ended
