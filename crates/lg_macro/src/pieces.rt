@@ -92,16 +92,6 @@ impl Pieces {
         }
     }
 
-    /// No pieces, with room for a number of pieces, and for a number of bytes in all of them.
-    pub fn with_room(alloc: Global, pieces: usize, bytes: usize) -> Result<Pieces, OutOfMemory>
-        ensures { IfOk result (λ r. r ≡ []) }
-    {
-        Ok(Pieces {
-            bytes: Vec::with_capacity(alloc, bytes)?,
-            parts: Vec::with_capacity(alloc, pieces)?,
-        })
-    }
-
     /// Takes all pieces out. The memory stays.
     pub fn clear(&mut self)
         ensures { self.new ≡ [] }
