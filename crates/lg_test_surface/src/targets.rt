@@ -56,7 +56,11 @@ fn is_rv_right() -> bool {
 
 // `addi %r0 %r0 1`.
 fn added() -> Node
-    ensures { result ≡ record { op = op.Binary binary.Add last.Immediate; operands = operand.Reg reg.R0 ∷ operand.Reg reg.R0 ∷ operand.Number 1 ∷ []; line = 1 } }
+    ensures { result ≡ record {
+      op = op.Binary binary.Add last.Immediate;
+      operands = operand.Reg reg.R0 ∷ operand.Reg reg.R0 ∷ operand.Number 1 ∷ [];
+      line = 1;
+    } }
 {
     let r0 = Operand::Reg(Reg::R0);
     Node {
