@@ -92,7 +92,7 @@ def prove_in_place(crates):
 def prove_in_a_copy(crates):
     """Proves all crates from nothing, by `rt ci`, and keeps the program."""
     processors = len(os.sched_getaffinity(0))
-    say(f"proving {len(crates)} crates and building the program, once: about {minutes(crates)} minutes on {processors} processors; ./try runs a text in a minute, unproved")
+    say(f"proving {len(crates)} crates and building the program, once: about {minutes(crates)} minutes on {processors} processors; ./try runs a text after a minute or two, unproved")
     with tempfile.TemporaryDirectory(prefix="lightning-", dir=os.environ.get("TMPDIR", "/var/tmp")) as room:
         room = pathlib.Path(room)
         copy(crates, room)
