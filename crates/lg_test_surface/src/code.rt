@@ -60,7 +60,10 @@ fn is_choice_right(node: &Node) -> bool {
     let written: RegSet = writes(node);
     let needs: Needs = Needs::of(&[Need::Any]);
     let choices: Choices = choose(Target::X86_64, &needs, node, written, Staged::none());
-    read.has(Reg::R0) && choices.as_slice() == [Choice::Free(9)].as_slice()
+    match choices.as_slice() {
+        [Choice::Free(_)] => read.has(Reg::R0),
+        _ => false,
+    }
 }
 
 fn is_convention_right() -> bool {
