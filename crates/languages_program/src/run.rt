@@ -27,8 +27,8 @@ fn words_of(alloc: Global, argument: &str) -> Result<Vec<String>, OutOfMemory>
     Ok(words)
 }
 
-// Returns the argument part of a run.
-fn args_of(alloc: Global, argument: &str) -> Result<ArgImage, Stop>
+/// Returns the argument part of a run.
+pub fn args_of(alloc: Global, argument: &str) -> Result<ArgImage, Stop>
     ensures { IfOk result (λ args. length args ≤ most_args) }
 {
     let words = words_of(alloc, argument)?;

@@ -10,8 +10,8 @@ use lg_stack_language::compile;
 use std::alloc::Global;
 use std::io;
 
-// Returns the unit of the program that a text is.
-fn unit_in(alloc: Global, text: &str) -> Result<Unit, Trouble>
+/// Returns the unit of the program that a text is.
+pub fn unit_in(alloc: Global, text: &str) -> Result<Unit, Trouble>
     ensures { IfOk result (λ u. AreInside u.nodes (length u.image)) }
 {
     match compile(alloc, text) {

@@ -14,8 +14,8 @@ use lg_io::MemorySink;
 use lg_node::Unit;
 use std::io;
 
-// The targets, by their names.
-const TARGETS: &[(Target, &str)] = &[
+/// The targets, by their names.
+pub const TARGETS: &[(Target, &str)] = &[
     (Target::X86_64, "x86_64"),
     (Target::Aarch64, "aarch64"),
     (Target::Riscv64, "riscv64"),

@@ -79,12 +79,12 @@ module _ (places : List (Option Place)) where
   node-back None m e = cc
 
 -- ---- what is live
-module _ (l : LabelledNodes) (shape : TextShape) (addresses : List ℕ) (at : ℕ → ℕ) (saved entry first : ℕ) (outer : ℕ → ℕ) (images : (x k : ℕ) → IsBound l x (place.Image k) → slice_index addresses x ≡ data_base + k) where
+module _ (l : LabelledNodes) (shape : TextShape) (addresses : List ℕ) (at : ℕ → ℕ) (saved : ℕ) (outward : ℕ → Bool) (first : ℕ) (outer : ℕ → ℕ) (images : (x k : ℕ) → IsBound l x (place.Image k) → slice_index addresses x ≡ data_base + k) where
   abbrev old : Code
-  old = record { nodes = l; shape = shape; addresses = addresses; place = at; saved = saved; entry = entry; first = first; outer = outer }
+  old = record { nodes = l; shape = shape; addresses = addresses; place = at; saved = saved; outward = outward; first = first; outer = outer }
 
   abbrev new : Code
-  new = record { nodes = resolved_text l; shape = shape; addresses = addresses; place = at; saved = saved; entry = entry; first = first; outer = outer }
+  new = record { nodes = resolved_text l; shape = shape; addresses = addresses; place = at; saved = saved; outward = outward; first = first; outer = outer }
 
   back : (i : ℕ) (m : Node) → slice_get new.nodes.nodes i ≡ Some m → (n : Node) × (slice_get l.nodes i ≡ Some n) × (resolved_node l.places n ≡ m)
   back i m e = node-back l.places (slice_get l.nodes i) m (sym (slice_get-map (resolved_node l.places) l.nodes i) ∙ e)

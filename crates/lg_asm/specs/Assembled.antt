@@ -1,5 +1,5 @@
 -- What is kept of code, and what follows from it.
-use Rattle.std.specs.Prelude.{◌≡◌, ℕ, ◌+◌, ◌*◌, ◌%◌, ◌^◌, ◌<◌, ◌≤◌, Bool, List, [], ◌∷◌, Some, Ok, length, slice_get, slice_index}
+use Rattle.std.specs.Prelude.{◌≡◌, ℕ, ◌+◌, ◌*◌, ◌%◌, ◌^◌, ◌<◌, ◌≤◌, Bool, true, List, [], ◌∷◌, Some, Ok, length, slice_get, slice_index}
 use Rattle.lg_cpu.specs.Steps.{Run}
 use Rattle.lg_cpu.specs.States.{CpuState}
 use Rattle.lg_temp.specs.Agrees.{AgreesAt}
@@ -31,21 +31,23 @@ use Rattle.lg_op.specs.Nodes.{InForm}
 use Rattle.lg_op.specs.declared.node.Node.{Node}
 use Rattle.lg_op.specs.declared.op.Op.TheVariants as op
 use Rattle.lg_op.specs.declared.op.PlainOp.TheVariants as plain
+use Rattle.lg_op.specs.declared.operand.Label.{Label}
 use Rattle.lg_op.specs.declared.operand.Operand.TheVariants as operand
 use Rattle.lg_opt.specs.Rewritings.{IsTidy, IsOrigin, KeepsOthers, CarriesAddresses, RunsAreFollowed}
 use Rattle.lg_dead.specs.Known.{HasNoFolds}
 use Rattle.lg_dead.specs.Dead.{HasNoDeadButMoves}
 use Rattle.lg_dead.specs.Rewritten.{is_droppable, IsRewrittenNode, AreFinal}
 use Rattle.std.specs.List.{All}
-use Rattle.lg_asm.specs.Lowered.{ArePlaces, AreOf, AreNodesCoded, HasNoRoomFor}
+use Rattle.lg_asm.specs.Lowered.{is_marked, is_outward, ArePlaces, AreOf, AreNodesCoded, HasNoRoomFor}
 use Rattle.lg_asm.specs.NodeChoices.{spills_in}
 
--- the target, the size of the buffer in which the code was made, the bytes, the final nodes with their shape, the registers that are live before and after
+-- the target, the size of the buffer in which the code was made, marks of the nodes that begin the functions which are called from outside, the bytes, the final nodes with their shape, the registers that are live before and after
 -- each, the places of the nodes and of the end, the addresses of the labels, the index of the text's node from which each comes, and how many registers are
 -- saved for temporaries
 pub record Assembled : Type 0 where
   pub target : Target
   pub size : ℕ
+  pub outward : List Bool
   pub bytes : List ℕ
   pub nodes : LabelledNodes
   pub shape : TextShape
@@ -77,7 +79,7 @@ pub record IsCode (c : Assembled) : Type 0 where
   pub ordered : ArePlaces c.nodes c.places (length c.bytes)
   pub addresses : AreAddresses c.nodes (length c.bytes) c.labels
   pub addressed : AreOf c.nodes c.places c.labels
-  pub coded : AreNodesCoded c.target c.nodes c.shape c.live c.size c.places c.labels c.bytes
+  pub coded : AreNodesCoded c.target c.nodes c.shape c.live (is_marked c.nodes c.outward) c.size c.places c.labels c.bytes
   pub saved : c.spills ≡ spills_in c.target c.nodes.nodes c.live (length c.nodes.nodes)
 
 -- ---- laws
@@ -118,7 +120,7 @@ abbrev pub StartStands : Type 0
 StartStands =
     (target : Target) (c : Code) (code image args : List ℕ) (trash : ℕ) (live : Frame → ℕ → Bool) (S : ℕ → Bool) → MayStart image args trash
     → IsShapeOf c.nodes c.shape
-    → c.place 0 ≡ code_base → entry_at c.nodes 0 ≡ c.entry → (start_of target image args trash).registers ≡ c.outer
+    → c.place 0 ≡ code_base → c.outward (entry_at c.nodes 0) ≡ true → (start_of target image args trash).registers ≡ c.outer
     → Stands (processor_of target code trash) c live (start_state image args) [] (run_from target image args trash) S
 
 -- after each `.align` of the text the code is at a multiple of its number
@@ -130,22 +132,31 @@ AlignsStand =
     → (k : ℕ) × (slice_get c.origin k ≡ Some i) × (slice_index c.places (k + 1) % number ≡ 0)
 
 -- ---- refusals
--- a text has no room in a size: at one of its final nodes fewer than 256 bytes were free after the code of those before
-pub record HasNoRoom (target : Target) (l : LabelledNodes) (size : ℕ) : Type 0 where
+-- a text with these labels of functions that are called from outside has no room in a size: at one of its final nodes fewer than 256 bytes were free after the
+-- code of those before
+pub record HasNoRoomWith (target : Target) (l : LabelledNodes) (entries : List Label) (size : ℕ) : Type 0 where
   pub nodes : LabelledNodes
   pub shape : TextShape
   pub origin : List ℕ
   pub final : AreFinal l nodes shape origin
   pub taken : shape.taken ≡ taken_labels l
-  pub room : HasNoRoomFor target nodes shape size
+  pub room : HasNoRoomFor target nodes shape (is_outward nodes entries) size
 
 -- that of code that has no room, and only where the nodes could have more bytes than the size
+abbrev pub IsRefusedWith : Target → LabelledNodes → List Label → ℕ → Stop → Type 0
+IsRefusedWith target l entries size (stop.Refused r) =
+    (r ≡ record { kind = CodeFull; line = 0 }) × (size < 256 * length l.nodes + 256) × HasNoRoomWith target l entries size
+IsRefusedWith target l entries size stop.OutOfMemory = Unit {0}
+
+-- where none but the entry is called from outside
+abbrev pub HasNoRoom : Target → LabelledNodes → ℕ → Type 0
+HasNoRoom target l size = HasNoRoomWith target l [] size
+
 abbrev pub IsRefusedBy : Target → LabelledNodes → ℕ → Stop → Type 0
-IsRefusedBy target l size (stop.Refused r) = (r ≡ record { kind = CodeFull; line = 0 }) × (size < 256 * length l.nodes + 256) × HasNoRoom target l size
-IsRefusedBy target l size stop.OutOfMemory = Unit {0}
+IsRefusedBy target l size s = IsRefusedWith target l [] size s
 
 -- the same of nodes that are final
-abbrev pub IsRefusedFor : Target → LabelledNodes → TextShape → ℕ → Stop → Type 0
-IsRefusedFor target l shape size (stop.Refused r) =
-    (r ≡ record { kind = CodeFull; line = 0 }) × (size < 256 * length l.nodes + 256) × HasNoRoomFor target l shape size
-IsRefusedFor target l shape size stop.OutOfMemory = Unit {0}
+abbrev pub IsRefusedFor : Target → LabelledNodes → TextShape → (ℕ → Bool) → ℕ → Stop → Type 0
+IsRefusedFor target l shape outward size (stop.Refused r) =
+    (r ≡ record { kind = CodeFull; line = 0 }) × (size < 256 * length l.nodes + 256) × HasNoRoomFor target l shape outward size
+IsRefusedFor target l shape outward size stop.OutOfMemory = Unit {0}

@@ -17,10 +17,10 @@ use Rattle.lg_carry.specs.Entries.{entry_at}
 use Rattle.lg_carry.specs.FinalNodes.{Code}
 use Rattle.lg_carry.specs.Frames.{arriving, IsLinked}
 use Rattle.lg_carry.specs.Registers.{HoldsResult, HoldsArguments}
-use Rattle.lg_carry.specs.Stands.{Stands}
+use Rattle.lg_carry.specs.Stands.{HasParts, Stands}
 use Rattle.lg_meaning.specs.Means as mean
 use Rattle.lg_meaning.specs.Starts.{IsEntryStack, start_state_at}
-use Rattle.lg_meaning.specs.States.{Frame}
+use Rattle.lg_meaning.specs.States.{Frame, State}
 use Rattle.lg_meaning.specs.Steps.{Left, Exited}
 use Rattle.lg_node.specs.Shapes.{TextShape, IsShapeOf}
 use Rattle.lg_node.specs.declared.unit.Unit.{Unit as TextUnit}
@@ -67,7 +67,7 @@ CalledStand =
     (target : Target) (c : Code) (code image args : List ℕ) (sp trash : ℕ) (live : Frame → ℕ → Bool) (S : ℕ → Bool) (q : CpuState)
     → MayStart image args trash
     → IsShapeOf c.nodes c.shape
-    → c.place 0 ≡ code_base → entry_at c.nodes 0 ≡ c.entry → q.registers ≡ c.outer → IsCalled target image args sp q
+    → c.place 0 ≡ code_base → c.outward (entry_at c.nodes 0) ≡ true → q.registers ≡ c.outer → IsCalled target image args sp q
     → Stands (processor_of target code trash) c live (start_state_at sp image args) [] (run_of q) S
 
 -- after a return to the caller: control is at the return address, the stack pointer is that of the call, every other callee-saved register of the convention
@@ -78,10 +78,11 @@ pub record HasReturned (target : Target) (sp : ℕ) (q : CpuState) (answer : Opt
   pub kept : (r : ℕ) → is_kept target r ≡ true → r ≢ stack_register target → u.registers r ≡ q.registers r
   pub result : HoldsResult target u.registers answer
 
--- a state has the memory of the meaning's; where the meaning has returned with a result, so has the code, and where a host function has ended it, control is
+-- a state has the memory of the meaning's, and nothing else between the data and the heap; where the meaning has returned with a result, so has the code, and where a host function has ended it, control is
 -- at the entry of one
 pub record EndsAsMeant (target : Target) (sp : ℕ) (q : CpuState) (r : mean.Run) (p : Run CpuState) : Type 0 where
   pub memory : HasItsMemory r p
+  pub parts : HasParts r.state p.state.bytes
   pub returned : (answer : Option ℕ) → mean.ending_of r ≡ Some (Left answer) → HasReturned target sp q answer p.state
   pub exited : (status : ℕ) → mean.ending_of r ≡ Some (Exited status) → (name : HostName) × (host_by_address p.state.pc ≡ Some name)
 
@@ -97,17 +98,20 @@ ReturnsAsMeant meaning processor target sp q r =
 abbrev pub meaning_called : TextUnit → ℕ → List ℕ → mean.Run
 meaning_called unit sp args = mean.run_at (start_state_at sp unit.image args) []
 
--- the run of the code from a state agrees with the portable meaning over these addresses of the labels, keeps pace with it, with its memory, and ends with
--- its memory and its result, as a function of the convention does; and so it writes and ends whatever changes below the stack pointer and its zone after any
--- instruction
-pub record AgreesFrom (code addresses : List ℕ) (unit : TextUnit) (target : Target) (args : List ℕ) (sp trash : ℕ) (q : CpuState) : Type 0 where
-  pub runs : (n : ℕ) → AgreesAt (meaning_of unit addresses) (machine_of target code trash) (length unit.nodes.nodes) (meaning_called unit sp args) (run_of q) n
-  pub paces : KeepsPace (meaning_of unit addresses) (machine_of target code trash) HasItsMemory (meaning_called unit sp args) (run_of q)
-  pub ends : EndsAlike (meaning_of unit addresses) (machine_of target code trash) (EndsAsMeant target sp q) (meaning_called unit sp args) (run_of q)
-  pub returns : ReturnsAsMeant (meaning_of unit addresses) (machine_of target code trash) target sp q (meaning_called unit sp args)
+-- the run of the code from a state of the processor agrees with the portable meaning over these addresses of the labels from a portable state, keeps pace with it,
+-- with its memory, and ends with its memory and its result, as a function of the convention does that is called with this stack pointer; and so it writes and ends
+-- whatever changes below the stack pointer and its zone after any instruction
+pub record AgreesAs (code addresses : List ℕ) (unit : TextUnit) (target : Target) (sp trash : ℕ) (s : State) (q : CpuState) : Type 0 where
+  pub runs : (n : ℕ) → AgreesAt (meaning_of unit addresses) (machine_of target code trash) (length unit.nodes.nodes) (mean.run_at s []) (run_of q) n
+  pub paces : KeepsPace (meaning_of unit addresses) (machine_of target code trash) HasItsMemory (mean.run_at s []) (run_of q)
+  pub ends : EndsAlike (meaning_of unit addresses) (machine_of target code trash) (EndsAsMeant target sp q) (mean.run_at s []) (run_of q)
+  pub returns : ReturnsAsMeant (meaning_of unit addresses) (machine_of target code trash) target sp q (mean.run_at s [])
   pub withstands : (n : ℕ) (d : ℕ → Run CpuState → Run CpuState) → IsDisturber (processor_of target code trash) d
-      → AgreesAt (meaning_of unit addresses) (disturbed (processor_of target code trash) d).machine (length unit.nodes.nodes) (meaning_called unit sp args)
-      (run_of q, 0) n
+      → AgreesAt (meaning_of unit addresses) (disturbed (processor_of target code trash) d).machine (length unit.nodes.nodes) (mean.run_at s []) (run_of q, 0) n
+
+-- from the start of the unit's meaning, where it is called with this stack pointer
+abbrev pub AgreesFrom : (code addresses : List ℕ) → TextUnit → Target → (args : List ℕ) → (sp trash : ℕ) → CpuState → Type 0
+AgreesFrom code addresses unit target args sp trash q = AgreesAs code addresses unit target sp trash (start_state_at sp unit.image args) q
 
 -- code that is called by the convention agrees with the portable meaning, from every such state; host functions leave any one word in caller-saved registers
 abbrev pub CalledCodeAgrees : Type 0

@@ -4,7 +4,7 @@ ghost use Rattle.std.specs.Prelude.{◌≡◌, ◌+◌, ◌*◌, ◌<◌, ◌≤
 ghost use Rattle.lg_cpu.specs.Laws.{AreBytes};
 ghost use Rattle.lg_asm.specs.Addresses.{AreMade};
 ghost use Rattle.lg_asm.specs.Assembled.{ArePushed, IsRefusedFor};
-ghost use Rattle.lg_asm.specs.Lowered.{IsGiven};
+ghost use Rattle.lg_asm.specs.Lowered.{is_marked, IsGiven};
 ghost use Rattle.lg_asm.specs.NodeChoices.{spills_in};
 ghost use Rattle.lg_base.specs.Layout.{most_code};
 ghost use Rattle.lg_base.specs.declared.target.Target.{Target};
@@ -14,7 +14,7 @@ ghost use Rattle.lg_node.specs.Shapes.{IsShapeOf};
 
 use crate::addresses::addresses;
 use crate::counts::{Counts, counted};
-use crate::lowering::lower;
+use crate::lowering::lower_with;
 use lg_base::{CodeBytes, OutOfMemory, Places, Refusal, RefusalKind, Stop, Target};
 use lg_buf::CodeBuf;
 use lg_live::Live;
@@ -60,7 +60,7 @@ fn room_for(size: u32, nodes: u32) -> u32
     }
 }
 
-/// Returns the bytes of a text in a buffer of a size. They are refused with CodeFull only where at some node fewer than 256 bytes were free after those of
+/// Returns the bytes of a text in a buffer of a size, whose functions at marked nodes are called from outside. They are refused with CodeFull only where at some node fewer than 256 bytes were free after those of
 /// the nodes before it.
 pub(crate) fn text_bytes(
     alloc: Global,
@@ -68,13 +68,14 @@ pub(crate) fn text_bytes(
     shape: &Shape,
     live: &Live,
     target: Target,
+    outward: &[bool],
     size: u32,
 ) -> Result<TextBytes, Stop>
     requires shape { IsShapeOf nodes.now shape.now }
     requires live { AreLive nodes.now shape.now live.now }
     requires size { size ≤ most_code }
-    ensures given { IfOk result (λ t. IsGiven target nodes.now shape.now live.now size t.places.items t.tags.items t.bytes.items) }
-    ensures refused { IfErr result (IsRefusedFor target nodes.now shape.now size) }
+    ensures given { IfOk result (λ t. IsGiven target nodes.now shape.now live.now (is_marked nodes.now outward.now) size t.places.items t.tags.items t.bytes.items) }
+    ensures refused { IfErr result (IsRefusedFor target nodes.now shape.now (is_marked nodes.now outward.now) size) }
 {
     let count = nodes.len();
     let Some(stops) = count.checked_add(1) else {
@@ -87,7 +88,7 @@ pub(crate) fn text_bytes(
     let Ok(mut places) = Places::with_room(alloc, stops) else {
         return Err(Stop::OutOfMemory);
     };
-    if !lower(nodes, shape, live, target, &mut buf, &mut places) {
+    if !lower_with(nodes, shape, live, target, outward, &mut buf, &mut places) {
         return Err(Stop::Refused(Refusal {
             kind: RefusalKind::CodeFull,
             line: 0,
@@ -136,25 +137,26 @@ fn tables(
     Ok((labels, counts))
 }
 
-/// Returns the parts of the code of final nodes of this shape, in at most this many bytes. They are refused as `text_bytes` refuses them.
+/// Returns the parts of the code of final nodes of this shape, in at most this many bytes, whose functions at marked nodes are called from outside. They are refused as `text_bytes` refuses them.
 pub(crate) fn parts_of(
     alloc: Global,
     nodes: &NodeList,
     shape: &Shape,
     target: Target,
+    outward: &[bool],
     size: u32,
 ) -> Result<Parts, Stop>
     requires shape { IsShapeOf nodes.now shape.now }
     requires size { size ≤ most_code }
     ensures live { IfOk result (λ p. AreLive nodes.now shape.now p.live) }
-    ensures given { IfOk result (λ p. IsGiven target nodes.now shape.now p.live size p.text.places.items p.text.tags.items p.text.bytes.items) }
+    ensures given { IfOk result (λ p. IsGiven target nodes.now shape.now p.live (is_marked nodes.now outward.now) size p.text.places.items p.text.tags.items p.text.bytes.items) }
     ensures labels { IfOk result (λ p. AreMade nodes.now.places p.text.tags.items p.labels (length nodes.now.places)) }
     ensures passed { IfOk result (λ p. ArePushed nodes.now.nodes p.counts.passed.items (length nodes.now.nodes)) }
     ensures spills { IfOk result (λ p. p.counts.spills ≡ spills_in target nodes.now.nodes p.live (length nodes.now.nodes)) }
-    ensures refused { IfErr result (IsRefusedFor target nodes.now shape.now size) }
+    ensures refused { IfErr result (IsRefusedFor target nodes.now shape.now (is_marked nodes.now outward.now) size) }
 {
     let live = Live::of(alloc, nodes, shape)?;
-    let text = text_bytes(alloc, nodes, shape, &live, target, size)?;
+    let text = text_bytes(alloc, nodes, shape, &live, target, outward, size)?;
     let (labels, counts) = tables(alloc, nodes, &live, target, &text.tags)?;
     Ok(Parts {
         live,

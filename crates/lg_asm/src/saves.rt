@@ -1,14 +1,16 @@
 // How many of V0, V1 and V2 the frames of a text save.
 
-ghost use Rattle.std.specs.Prelude.{◌≡◌, ◌<◌, ◌≤◌, max, length, Some};
-ghost use Rattle.lg_asm.specs.Lowered.{saves_for, saves_by, saves_for_function, frame_saves};
+ghost use Rattle.std.specs.Prelude.{◌≡◌, ◌<◌, ◌≤◌, ◌==◌, ◌||◌, ℕ, false, max, length, slice_index_or, Some, IfOk};
+ghost use Rattle.lg_asm.specs.Lowered.{saves_for, saves_by, saves_for_function, frame_saves, marked_from, is_marked, is_outward};
 ghost use Rattle.lg_carry.specs.Entries.{is_align, is_jump, entry_at};
-ghost use Rattle.lg_meaning.specs.Steps.{function_here, node_of_label, operand_at};
+ghost use Rattle.lg_meaning.specs.Steps.{function_here, node_in, node_of_label, operand_at};
 
+use lg_base::OutOfMemory;
 use lg_carry::memory::operands::operand;
 use lg_live::{Live, RegSet};
-use lg_node::{NodeList, Place, Shape};
+use lg_node::{Label, NodeList, Place, Shape};
 use lg_op::{ControlOp, LastOperand, Node, Op, Operand, PlainOp, Reg};
+use std::alloc::Global;
 
 // Up to the last one that is live.
 fn saves_for(live: RegSet) -> u32
@@ -61,14 +63,10 @@ pub(crate) fn frame_saves(nodes: &NodeList, live: &Live) -> u32
 fn target_of(nodes: &NodeList, node: &Node) -> u32
     ensures { result ≡ node_of_label nodes.now.places (operand_at node.now 0) }
 {
-    nodes.what_holds();
     let Operand::Label(label) = operand(node, 0) else {
         return 0;
     };
-    if label.0 >= nodes.labels() {
-        return 0;
-    }
-    match nodes.place(label) {
+    match nodes.place_of(label) {
         Some(Place::Node(index)) => index,
         _ => 0,
     }
@@ -105,13 +103,61 @@ pub(crate) fn entry_of(nodes: &NodeList) -> u32
     nodes.len()
 }
 
-/// Returns how many of V0, V1 and V2 the frames of the function save in which a node stands: this many, and all three where a run begins with it.
-pub(crate) fn function_saves(shape: &Shape, index: u32, entry: u32, saved: u32) -> u32
-    ensures { result ≡ saves_for_function entry saved (function_here shape.now.functions index) }
+// Marks the node of a label that is bound at this place.
+fn mark(marks: &mut Vec<bool>, place: Option<Place>)
+    ensures count { length marks.new.items ≡ length marks.old.items }
+    ensures marked { (k : ℕ) → k < length marks.old.items
+        → slice_index_or marks.new.items k false ≡ ((k == node_in place) || slice_index_or marks.old.items k false) }
+{
+    let index = match place {
+        Some(Place::Node(index)) => index,
+        _ => 0,
+    };
+    if (index as usize) < marks.len() {
+        marks[index as usize] = true;
+    }
+}
+
+/// Returns marks of the nodes at which these labels are bound. Of no labels it takes no memory.
+pub(crate) fn marks_of(
+    alloc: Global,
+    nodes: &NodeList,
+    entries: &[Label],
+) -> Result<Vec<bool>, OutOfMemory>
+    ensures { IfOk result (λ marks. is_marked nodes.now marks.items ≡ is_outward nodes.now entries.now) }
+{
+    nodes.what_holds();
+    if entries.is_empty() {
+        return Ok(Vec::new(alloc));
+    }
+    let mut marks = vec![in alloc; false; nodes.len() as usize + 1]?;
+    for index in 0..entries.len() {
+        mark(&mut marks, nodes.place_of(entries[index]));
+    }
+    Ok(marks)
+}
+
+// Returns whether a function is called from outside that begins at a node: at the entry or at a marked node.
+fn is_outward(node: u32, entry: u32, marks: &[bool]) -> bool
+    ensures { result ≡ marked_from entry marks.now node }
+{
+    node == entry || marks.get(node as usize).copied().unwrap_or(false)
+}
+
+/// Returns how many of V0, V1 and V2 the frames of the function save in which a node stands: this many, and all three where it is called from outside, as that is
+/// which begins at the entry, and those that begin at marked nodes.
+pub(crate) fn function_saves(
+    shape: &Shape,
+    index: u32,
+    entry: u32,
+    marks: &[bool],
+    saved: u32,
+) -> u32
+    ensures { result ≡ saves_for_function (marked_from entry marks.now) saved (function_here shape.now.functions index) }
 {
     match shape.function_of(index) {
         Some(function) => {
-            if shape.entry(function) == entry {
+            if is_outward(shape.entry(function), entry, marks) {
                 3
             } else {
                 saved

@@ -48,14 +48,31 @@ fn bad_listing(line: u32) -> Stop
     })
 }
 
-// Appends bytes that there is room for.
-fn append(bytes: &mut CodeBytes, list: &[u8])
+// Appends bytes that there is room for, one after another.
+fn append_each(bytes: &mut CodeBytes, list: &[u8])
     requires { length list.now ≤ bytes.old.room }
     ensures items { bytes.new.items ≡ bytes.old.items ++ list.now }
     ensures room { bytes.new.room + length list.now ≡ bytes.old.room }
 {
     for byte in list {
         bytes.push(*byte);
+    }
+}
+
+// Appends bytes that there is room for. Four, as most instructions have, are written at once.
+fn append(bytes: &mut CodeBytes, list: &[u8])
+    requires { length list.now ≤ bytes.old.room }
+    ensures items { bytes.new.items ≡ bytes.old.items ++ list.now }
+    ensures room { bytes.new.room + length list.now ≡ bytes.old.room }
+{
+    match list {
+        [a, b, c, d] => {
+            bytes.push(*a);
+            bytes.push(*b);
+            bytes.push(*c);
+            bytes.push(*d);
+        }
+        _ => append_each(bytes, list),
     }
 }
 

@@ -2,14 +2,16 @@
 // and assembles a text of N instructions, at most 1,000,000, for `rv64`, `aarch64` or `x86_64`, and without a word for RV64; `assemble N TIMES TARGET` reads
 // that text once; `straight N TIMES`, `branches N TIMES` and `jumps N TIMES` find the live registers of a text of N lines; `moves N TIMES` and `chain N
 // TIMES` rewrite one of N moves or jumps; `known N TIMES` folds one of N lines, and `dead N TIMES` drops the N definitions of one; `emit N` emits 64 MiB in
-// pieces of N bytes. Without words it does a little of each.
+// pieces of N bytes; `calls N 1 TARGET` calls a function of code N times, each time for the sum of two words. Without words it does a little of each.
 #![tactic(auto)]
 
+mod calls;
 mod passes;
 mod pieces;
 mod texts;
 mod works;
 
+use calls::call_sum;
 use lg_base::{Stop, Target};
 use passes::pass_lines;
 use pieces::fill;
@@ -22,6 +24,7 @@ fn done(alloc: Global, work: &Work, counts: [u32; 2], target: Target) -> Result<
     match work {
         Work::Text(parts, pass) => pass_lines(alloc, pass, parts, counts, target),
         Work::Emit => fill(alloc, 0x400_0000, counts[0]),
+        Work::Calls => call_sum(alloc, counts[0], target),
     }
 }
 

@@ -97,8 +97,8 @@ fn pass_nodes(alloc: Global, pass: &Pass, unit: &Unit, times: u32) -> Result<u64
     Ok(left)
 }
 
-// Returns the unit of a text. What it is promised to be is of no use here, but that it is whole.
-fn unit_of(alloc: Global, text: &[u8]) -> Result<Unit, Stop>
+/// Returns the unit of a text. What it is promised to be is of no use here, but that it is whole.
+pub fn unit_of(alloc: Global, text: &[u8]) -> Result<Unit, Stop>
     ensures { IfOk result IsWhole }
 {
     if text.len() > 16_777_216 {

@@ -24,6 +24,8 @@ pub enum Work {
     Text(Parts, Pass),
     /// Pieces of some bytes are emitted into a buffer of 64 MiB.
     Emit,
+    /// A function of code is called from outside.
+    Calls,
 }
 
 // In front of lines of V0 and V1, and after them.
@@ -94,4 +96,5 @@ pub const WORKS: &[(&str, u32, Work)] = &[
     ("known", 64, Work::Text(KNOWN, Pass::Fold)),
     ("dead", 64, Work::Text(DEAD, Pass::Dead)),
     ("emit", 65_536, Work::Emit),
+    ("calls", 64, Work::Calls),
 ];

@@ -1,11 +1,10 @@
 -- Bytes below the stack pointer do not count where states correspond to each other.
-use Rattle.std.proofs.Common.{◌≡◌, ℕ, ◌+◌, ◌-◌, ◌<◌, ◌≤◌, ◌⊎◌, inl, inr, Bool, true, false, List, [], ◌∷◌, Option, Some, None, refl, sym, ap, ◌∙◌, subst, arith, ⊎_elim, length}
+use Rattle.std.proofs.Common.{◌≡◌, ℕ, ◌-◌, ◌<◌, ◌≤◌, ◌⊎◌, inl, inr, Bool, true, false, List, [], ◌∷◌, Option, Some, None, refl, sym, ap, ◌∙◌, subst, arith, ⊎_elim, length}
 use Rattle.std.specs.Prelude.{◌==◌, not}
 use Rattle.std.proofs.lemmas.Bool.{or_cases}
 use Rattle.lg_base.specs.Conventions.{stack_register, frame_register, link_register}
 use Rattle.lg_base.specs.Flags.{carry_of}
 use Rattle.lg_base.specs.Layout.{return_word}
-use Rattle.lg_base.specs.declared.flags.Flags.{Flags}
 use Rattle.lg_base.specs.declared.target.Target.{Target}
 use Rattle.lg_base.specs.declared.target.Target.TheVariants.{X86_64, Aarch64, Riscv64}
 use Rattle.lg_node.specs.Functions.{home}
@@ -14,16 +13,16 @@ use Rattle.lg_meaning.specs.States.{Frame, State, in_locals, in_any_locals, is_o
 use Rattle.lg_meaning.specs.Fits.{IsTopOf, AreLinked, entry_stack}
 use Rattle.lg_carry.specs.FinalNodes.{Code, is_inside}
 use Rattle.lg_carry.specs.Homes.{homes_at}
-use Rattle.lg_carry.specs.Frames.{at_call, arriving, IsLinked, IsSettled, IsArriving, IsRunning, MayHoldCaller, HaveFrameWords}
+use Rattle.lg_carry.specs.Frames.{at_call, arriving, IsLinked, IsArriving, IsRunning, MayHoldCaller}
 use Rattle.lg_carry.specs.Outer.{HoldsOuter, OuterIs, outer_stack}
 use Rattle.lg_carry.specs.Places.{AreStacked, ArePassedFew, HaveFewArguments}
-use Rattle.lg_carry.specs.Processors.{Seen, IsSeen, Processor, zone, is_below, stack_of, IsOff, TouchesAbove}
-use Rattle.lg_carry.specs.Registers.{HasWord, HoldsRegisters, HoldsCarry, HoldsResult, HoldsArguments}
-use Rattle.lg_carry.specs.Stands.{lowest, HasParts, StatesAgree}
+use Rattle.lg_carry.specs.Processors.{Seen, IsSeen, Processor, is_below, stack_of, IsOff, TouchesAbove}
+use Rattle.lg_carry.specs.Registers.{HoldsRegisters, HoldsCarry, HoldsResult, HoldsArguments}
+use Rattle.lg_carry.specs.Stands.{lowest, StatesAgree}
 use Rattle.lg_carry.proofs.AgreeInFrameLemmas.{settled, running}
 use Rattle.lg_carry.proofs.KeptLemmas.{stack_arguments-kept, frames-kept, running-kept}
 use Rattle.lg_carry.proofs.OuterLemmas.{bottom-words, keeps-on, after-entry, outer-inside, outer-called, called-outer, outer-room}
-use Rattle.lg_carry.proofs.StackLemmas.{stacked, few-arguments, stacked-running, words-above, within-where, locals-above, open-where, settled-size, stacked-high}
+use Rattle.lg_carry.proofs.StackLemmas.{stacked, few-arguments, stacked-running, words-above, within-where, locals-above, open-where}
 use Rattle.lg_carry.proofs.WordLemmas.{word-kept}
 use Rattle.lg_carry.specs.Below.{LooksSame, StatesAreKept, StandsAreKept}
 

@@ -1,19 +1,18 @@
 -- The way of a node leads there with changes below the stack pointer too.
-use Rattle.std.proofs.Common.{◌≡◌, ℕ, zero, suc, ◌+◌, ◌<◌, ◌≤◌, ◌⊎◌, inl, inr, Bool, true, false, List, ◌++◌, refl, sym, ap, ◌∙◌, subst, arith, ⊎_elim}
+use Rattle.std.proofs.Common.{◌≡◌, ℕ, zero, suc, ◌<◌, ◌≤◌, inl, inr, Bool, false, List, refl, sym, ap, ◌∙◌, subst, arith, ⊎_elim}
 use Rattle.lg_base.specs.HostNames.{host_by_address}
-use Rattle.lg_base.specs.Runs.{Status, Running, Ended, Bad, iter}
+use Rattle.lg_base.specs.Runs.{Running, iter}
 use Rattle.lg_base.specs.declared.target.Target.{Target}
 use Rattle.lg_base.specs.declared.target.Target.TheVariants.{X86_64, Aarch64, Riscv64}
 use Rattle.std.specs.Prelude.{slice_get}
-use Rattle.lg_carry.specs.Carries.{moves_at, BeginsInside, IsHostStep, KeepsOutside, Meets, Leads}
+use Rattle.lg_carry.specs.Carries.{moves_at, BeginsInside, IsHostStep, KeepsOutside, Meets}
 use Rattle.lg_carry.specs.FinalNodes.{Code}
 use Rattle.lg_carry.specs.Places.{ArePassedFew}
-use Rattle.lg_carry.specs.Processors.{Seen, IsSeen, Processor, zone, is_below, stack_of, DoesNotFall, DoesNotRise}
-use Rattle.lg_carry.specs.Stands.{Stands}
+use Rattle.lg_carry.specs.Processors.{IsSeen, Processor, is_below, stack_of, DoesNotFall, DoesNotRise}
 use Rattle.lg_meaning.specs.States.{Frame, State}
 use Rattle.lg_meaning.specs.Steps.{Outcome, Goes, Ends, Undefined}
-use Rattle.lg_carry.specs.Below.{LooksSame, Disturbs}
-use Rattle.lg_carry.specs.Disturbed.{AreSame, hidden_in, Overlooks, IsDisturber, next_of, disturbed, IsSteady, SteadyWaysLead}
+use Rattle.lg_carry.specs.Below.{Disturbs}
+use Rattle.lg_carry.specs.Disturbed.{AreSame, hidden_in, IsDisturber, next_of, disturbed, IsSteady, SteadyWaysLead}
 use Rattle.lg_carry.proofs.OuterLemmas.{ended-on}
 use Rattle.lg_carry.proofs.BelowLemmas.{not-below, state-kept, touches-same}
 

@@ -1,22 +1,22 @@
 -- Code that carries each node keeps pace with the meaning to its end.
-use Rattle.std.proofs.Common.{◌≡◌, ◌≢◌, ℕ, zero, suc, ◌<◌, ◌≤◌, ◌⊎◌, inl, inr, Bool, List, ◌++◌, Option, Some, None, refl, sym, ap, ◌∙◌, subst, ⊎_elim, arith, length}
+use Rattle.std.proofs.Common.{◌≡◌, ℕ, zero, suc, ◌<◌, ◌≤◌, inl, inr, Bool, List, ◌++◌, Some, None, refl, sym, ap, ◌∙◌, subst, ⊎_elim, arith, length}
 use Rattle.std.specs.Prelude.{slice_get}
 use Rattle.lg_base.specs.Runs.{Machine, IsMachine, iter}
 use Rattle.lg_meaning.specs.Means as mean
 use Rattle.lg_meaning.specs.States.{Frame, State}
-use Rattle.lg_meaning.specs.Steps.{Ending, ending_status, Outcome, Goes, Ends, Undefined}
+use Rattle.lg_meaning.specs.Steps.{ending_status, Outcome, Goes, Ends, Undefined}
 use Rattle.lg_meaning.specs.Texts.{step}
 use Rattle.lg_meaning.proofs.MeanLemmas.{means_are_machines}
 use Rattle.lg_temp.specs.Paces.{KeepsPace, StandingAlike, LandsAlike, CarriesAlike}
 use Rattle.lg_temp.proofs.PaceLemmas.{keeps-pace}
 use Rattle.lg_carry.specs.Processors.{Processor}
 use Rattle.lg_carry.specs.FinalNodes.{Code}
-use Rattle.lg_carry.specs.Stands.{Stands}
 use Rattle.lg_carry.specs.Carries.{moves_at, IsHostStep, KeepsOutside, Leads, Carries}
 use Rattle.lg_carry.specs.Endings.{HostsKeep, IsUnwritten, AreAlike, CarriedRunsEndAlike}
 use Rattle.lg_carry.specs.Outer.{HasEnded}
 use Rattle.lg_carry.specs.Ranks.{StandAlike}
 use Rattle.lg_carry.proofs.MeaningLemmas.{next}
+use Rattle.lg_carry.proofs.MemoryLemmas.{below-at-end}
 
 module _ {Q : Type 0} (P : Processor Q) (c : Code) (before : ℕ → ℕ → Bool) (machine : IsMachine P.machine) (hosts : HostsKeep P)
     (nodes : (i : ℕ) → i < length c.nodes.nodes → Carries P c before i) where
@@ -39,7 +39,8 @@ module _ {Q : Type 0} (P : Processor Q) (c : Code) (before : ℕ → ℕ → Boo
     runs = h.stand.1.runs;
     out = h.stand.1.wrote;
     alike = record {
-      memory = record { bytes_are = λ a b lt e. h.stand.1.state.memory.is a b e; mark_is = h.stand.1.state.mark };
+      memory = record { bytes_are = λ a b counts e. h.stand.1.state.memory.is a b e; mark_is = h.stand.1.state.mark };
+      parts = h.stand.1.state.parts;
       ended = λ e is. absurd (none-some (sym (ap (λ t. mean.ending_in t p.ending) h.stand.0) ∙ is));
       unwritten = h.unwritten;
     };
@@ -80,8 +81,15 @@ module _ {Q : Type 0} (P : Processor Q) (c : Code) (before : ℕ → ℕ → Boo
           let kept = l.there.2 in
           let alike : AreAlike P c (mean.behind p (Ends x)) end = record {
             memory = record {
-              bytes_are = λ a b lt f. kept.bytes a lt ∙ h.stand.1.state.memory.is a b f;
+              bytes_are = λ a b counts f. kept.bytes a (below-at-end refl counts) ∙ h.stand.1.state.memory.is a b f;
               mark_is = kept.mark ∙ h.stand.1.state.mark;
+            };
+            parts = record {
+              data_small = h.stand.1.state.parts.data_small;
+              args_small = h.stand.1.state.parts.args_small;
+              data_whole = h.stand.1.state.parts.data_whole;
+              args_whole = h.stand.1.state.parts.args_whole;
+              same = λ a low high. kept.bytes a (omega (arith, high)) ∙ h.stand.1.state.parts.same a low high;
             };
             ended = λ y is. let same : x ≡ y = cc in subst (λ z. HasEnded P.target c z (P.seen end)) same l.there.3;
             unwritten = λ y u. stays p.state.at (Ends x) p.out q l y u l.steps (omega arith) ∙ h.unwritten y u;

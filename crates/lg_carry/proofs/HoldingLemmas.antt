@@ -1,6 +1,6 @@
 -- Each node that is carried withstands changes below the stack pointer.
 use Rattle.std.proofs.Common.{◌≡◌, ◌≢◌, ℕ, zero, suc, ◌+◌, ◌<◌, ◌≤◌, ◌⊎◌, inl, inr, ⊎_elim, Bool, true, false, List, Option, None, Some, refl, sym, ap, ◌∙◌, subst, arith}
-use Rattle.std.proofs.lemmas.Bool.{cases_lt, cases_Bool}
+use Rattle.std.proofs.lemmas.Bool.{cases_lt}
 use Rattle.std.specs.Prelude.{◌&&◌, ◌||◌, slice_get}
 use Rattle.lg_base.specs.Layout.{code_base, most_code}
 use Rattle.lg_base.specs.Runs.{Status, Running, Ended, Bad, IsMachine, iter}
@@ -8,20 +8,19 @@ use Rattle.lg_op.specs.declared.node.Node.{Node}
 use Rattle.lg_op.specs.declared.op.ControlOp.TheVariants as control
 use Rattle.lg_op.specs.declared.op.Op.{Op}
 use Rattle.lg_op.specs.declared.op.Op.TheVariants as op
-use Rattle.lg_op.specs.declared.op.PlainOp.TheVariants as plain
 use Rattle.lg_node.specs.Functions.{is_prolog, is_prolog_at}
 use Rattle.lg_meaning.specs.Fits.{is_call}
 use Rattle.lg_meaning.specs.Reaching.{is_return}
 use Rattle.lg_meaning.specs.States.{Frame, State}
-use Rattle.lg_meaning.specs.Steps.{Outcome, Goes, Ends, Undefined}
+use Rattle.lg_meaning.specs.Steps.{Outcome}
 use Rattle.lg_meaning.specs.Texts.{step}
-use Rattle.lg_carry.specs.Carries.{leaps, leaps_at, calls_at, moves_at, sinks_at, rises_at, BeginsInside, IsHostStep, KeepsOutside, Meets, Leads, Carries}
-use Rattle.lg_carry.specs.Disturbed.{hidden_in, IsSteady, IsSinking, SinksTo}
+use Rattle.lg_carry.specs.Carries.{leaps, leaps_at, calls_at, moves_at, sinks_at, rises_at, BeginsInside, IsHostStep, KeepsOutside, Meets, Leads}
+use Rattle.lg_carry.specs.Disturbed.{hidden_in, IsSteady, IsSinking}
 use Rattle.lg_carry.specs.FinalNodes.{Code}
 use Rattle.lg_carry.specs.Outside.{calls_move, moves_stack}
 use Rattle.lg_carry.specs.Processors.{Processor, DoesNotFall}
 use Rattle.lg_carry.specs.Stands.{Stands}
-use Rattle.lg_carry.specs.Undisturbed.{HoldsUp, IsInPart, IsBlind, IsPlaced, CarriedNodesWithstand}
+use Rattle.lg_carry.specs.Undisturbed.{HoldsUp, IsInPart, IsBlind, CarriedNodesWithstand}
 use Rattle.lg_base.specs.declared.target.Target.{Target}
 use Rattle.lg_carry.proofs.TurnLemmas.{keeps-stack}
 

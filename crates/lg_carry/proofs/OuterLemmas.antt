@@ -1,7 +1,7 @@
 -- What the code keeps for who calls the entry stays.
-use Rattle.std.proofs.Common.{◌≡◌, ℕ, ◌+◌, ◌<◌, ◌≤◌, inl, inr, Bool, true, false, List, [], ◌∷◌, Option, Some, refl, sym, ap, ◌∙◌, subst, arith}
+use Rattle.std.proofs.Common.{◌≡◌, ℕ, ◌+◌, ◌<◌, ◌≤◌, inl, inr, Bool, true, false, List, [], ◌∷◌, Option, refl, sym, ap, ◌∙◌, subst, arith}
 use Rattle.lg_base.specs.Conventions.{portable_register, frame_register, stack_register}
-use Rattle.lg_base.specs.Layout.{stack_end, frame_pointer, saved_word}
+use Rattle.lg_base.specs.Layout.{frame_pointer, saved_word}
 use Rattle.lg_base.specs.declared.target.Target.{Target}
 use Rattle.lg_node.specs.Nodes.{LabelledNodes}
 use Rattle.lg_node.specs.Shapes.{TextShape}
@@ -10,7 +10,7 @@ use Rattle.lg_meaning.specs.States.{Frame}
 use Rattle.lg_meaning.specs.Steps.{Ending, Exited, Left}
 use Rattle.lg_carry.specs.Entries.{entry_at}
 use Rattle.lg_carry.specs.FinalNodes.{Code, function_at, is_entry}
-use Rattle.lg_carry.specs.Outer.{HoldsOuter, KeepsOuter, bottom_at, IsBeforeEntry, IsAfterEntry, OuterIs, HasEnded, outer_stack}
+use Rattle.lg_carry.specs.Outer.{HoldsOuter, KeepsOuter, bottom_at, IsAfterEntry, OuterIs, HasEnded, outer_stack}
 use Rattle.lg_carry.specs.Places.{InWords}
 use Rattle.lg_carry.specs.Processors.{Seen}
 use Rattle.lg_carry.specs.Registers.{HoldsResult}
@@ -78,7 +78,7 @@ outer-on true target c at to f gs q u same enters pointer portable bytes k = rec
   keeps = subst (KeepsOuter target c) (sym bytes) k.keeps;
 }
 outer-on false target c at to f (g ∷ gs) q u same enters pointer portable bytes k = record { entry = k.entry; keeps = subst (KeepsOuter target c) (sym bytes) k.keeps }
-outer-on false target c at to f [] q u same enters pointer portable bytes k = record { enters = enters refl refl ∙ k.enters; holds = holds-on target c q.registers u.registers pointer portable k.holds }
+outer-on false target c at to f [] q u same enters pointer portable bytes k = record { enters = ap c.outward (enters refl refl) ∙ k.enters; holds = holds-on target c q.registers u.registers pointer portable k.holds }
 
 -- ---- at an end
 pub ended-on : (target : Target) (c : Code) (e : Ending) (q u : Seen) → u.pc ≡ q.pc → u.registers ≡ q.registers → HasEnded target c e q → HasEnded target c e u

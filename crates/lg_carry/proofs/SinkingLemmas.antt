@@ -1,10 +1,10 @@
 -- The way of a node that lets the stack pointer fall leads there with changes below the stack pointer too: such a change might have come before the node.
-use Rattle.std.proofs.Common.{◌≡◌, ℕ, zero, suc, ◌+◌, ◌-◌, ◌^◌, ◌<◌, ◌≤◌, ◌⊎◌, inl, inr, Bool, true, false, List, ◌++◌, Option, refl, sym, ap, ◌∙◌, subst, arith, ⊎_elim}
+use Rattle.std.proofs.Common.{◌≡◌, ℕ, zero, suc, ◌+◌, ◌-◌, ◌^◌, ◌<◌, ◌≤◌, ◌⊎◌, inl, inr, Bool, true, false, List, Option, refl, sym, ap, ◌∙◌, subst, arith, ⊎_elim}
 use Rattle.std.specs.Prelude.{◌||◌, if◌then◌else◌, is_some, Some, None, length, slice_get}
 use Rattle.std.proofs.lemmas.Bool.{cases_lt}
 use Rattle.lg_base.specs.HostNames.{host_by_address}
 use Rattle.lg_base.specs.Parts.{heap_base, stack_base}
-use Rattle.lg_base.specs.Runs.{Status, Running, Ended, Bad, iter}
+use Rattle.lg_base.specs.Runs.{Running, Ended, iter}
 use Rattle.lg_base.specs.declared.target.Target.{Target}
 use Rattle.lg_base.specs.declared.target.Target.TheVariants.{X86_64, Aarch64, Riscv64}
 use Rattle.lg_cells.specs.Cells.{within}
@@ -21,12 +21,12 @@ use Rattle.lg_op.specs.declared.op.Op.{Op}
 use Rattle.lg_op.specs.declared.op.Op.TheVariants as op
 use Rattle.lg_op.specs.declared.op.PlainOp.TheVariants as plain
 use Rattle.lg_carry.specs.Places.{ArePassedFew}
-use Rattle.lg_carry.specs.Processors.{Seen, IsSeen, TouchesAbove, Processor, zone, is_below, stack_of, DoesNotRise}
+use Rattle.lg_carry.specs.Processors.{IsSeen, TouchesAbove, Processor, is_below, stack_of, DoesNotRise}
 use Rattle.lg_carry.specs.Stands.{Stands}
 use Rattle.lg_meaning.specs.States.{Frame, State}
 use Rattle.lg_meaning.specs.Steps.{ending_status, Outcome, Goes, Ends, Undefined}
-use Rattle.lg_carry.specs.Below.{LooksSame, Disturbs}
-use Rattle.lg_carry.specs.Disturbed.{AreSame, hidden_in, IsDisturber, next_of, disturbed, LeavesAlone, IsSinking, Patches, SinksTo, LiesApart, SinkingWaysLead}
+use Rattle.lg_carry.specs.Below.{Disturbs}
+use Rattle.lg_carry.specs.Disturbed.{AreSame, hidden_in, IsDisturber, next_of, disturbed, IsSinking, Patches, SinksTo, LiesApart, SinkingWaysLead}
 use Rattle.lg_carry.proofs.BelowLemmas.{not-below, state-kept, stands-kept, touches-same}
 use Rattle.lg_carry.proofs.OuterLemmas.{ended-on}
 use Rattle.lg_carry.proofs.DisturbedLemmas.{same-more, same-self, disturbs-same, same-stack}

@@ -1,5 +1,5 @@
 -- A step does the same whatever is where it touches nothing: what the processors' instructions have in common.
-use Rattle.std.proofs.Common.{◌≡◌, ℕ, zero, suc, ◌+◌, ◌/◌, ◌%◌, ◌^◌, ◌<◌, ◌≤◌, ◌⊎◌, inl, inr, ⊎_elim, Bool, true, false, List, ◌++◌, Option, Some, None, refl, sym, ap, ◌∙◌, arith}
+use Rattle.std.proofs.Common.{◌≡◌, ℕ, zero, suc, ◌+◌, ◌/◌, ◌%◌, ◌<◌, ◌≤◌, ◌⊎◌, inl, inr, ⊎_elim, Bool, true, false, ◌++◌, Option, Some, refl, sym, ap, ◌∙◌, arith}
 use Rattle.std.specs.Prelude.{◌==◌, if◌then◌else◌, is_some}
 use Rattle.std.proofs.lemmas.Bool.{cases_lt}
 use Rattle.lg_base.proofs.SpaceLemmas.{stored-out}
@@ -10,7 +10,6 @@ use Rattle.lg_base.specs.declared.target.Target.{Target}
 use Rattle.lg_cpu.specs.Laws.{IsSound}
 use Rattle.lg_cpu.specs.States.{CpuState, arrives}
 use Rattle.lg_cpu.specs.Steps.{Progress, Goes, EndedWith, Faulted, Effect, Run, faults, after, on_going, stepped, status_of, machine}
-use Rattle.lg_carry.specs.Below.{LooksSame}
 use Rattle.lg_carry.specs.Disturbed.{AreSame}
 use Rattle.lg_carry.specs.Processors.{Seen, IsSeen, Processor, Span}
 use Rattle.lg_carry.proofs.WordLemmas.{mapped-same, loaded-same}

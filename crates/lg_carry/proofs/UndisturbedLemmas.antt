@@ -1,5 +1,5 @@
 -- Whatever changes below the stack pointer between two instructions, the code agrees with the portable meaning.
-use Rattle.std.proofs.Common.{◌≡◌, ◌≢◌, ℕ, suc, ◌+◌, ◌<◌, ◌≤◌, ◌⊎◌, inl, inr, Bool, List, [], ◌++◌, refl, sym, ap, ◌∙◌, subst, ⊎_elim, length, append-nil}
+use Rattle.std.proofs.Common.{◌≡◌, ◌≢◌, ℕ, inl, inr, Bool, List, [], refl, sym, ◌∙◌, ⊎_elim, append-nil}
 use Rattle.lg_base.specs.Runs.{Status, Running, Ended, Bad, IsMachine, IsPrefixOf}
 use Rattle.lg_carry.proofs.MeaningLemmas.{code-agrees}
 use Rattle.lg_carry.specs.Carries.{Leads, Carries}
@@ -7,10 +7,9 @@ use Rattle.lg_carry.specs.FinalNodes.{Code}
 use Rattle.lg_carry.specs.Places.{ArePassedFew}
 use Rattle.lg_carry.specs.Processors.{Processor}
 use Rattle.lg_carry.specs.Stands.{Stands}
-use Rattle.lg_meaning.specs.States.{Frame, State}
-use Rattle.lg_meaning.specs.Steps.{Undefined}
+use Rattle.lg_meaning.specs.States.{State}
 use Rattle.lg_meaning.specs.Texts.{step}
-use Rattle.lg_carry.specs.Disturbed.{IsDisturber, next_of, disturbed, IsSteady, Patches, SinksTo}
+use Rattle.lg_carry.specs.Disturbed.{IsDisturber, next_of, disturbed, Patches}
 use Rattle.lg_carry.specs.Undisturbed.{HoldsUp, Withstands, DisturbedCodeAgrees}
 use Rattle.lg_carry.proofs.DisturbedLemmas.{steady-leads}
 use Rattle.lg_carry.proofs.SinkingLemmas.{sinking-leads}
@@ -47,6 +46,6 @@ module _ {Q : Type 0} (P : Processor Q) (d : ℕ → Q → Q) (disturbs : IsDist
         leads s out x st (inr h) = sinking-leads P d c (λ f. before f.back) (λ t. before t.at) i s (before i) _ out x.1 x.0 pt disturbs few h.0 w.apart st h.1
 
 pub disturbed-agrees : {Q : Type 0} (P : Processor Q) → DisturbedCodeAgrees P
-disturbed-agrees P d c before sp image args q k n pt disturbs machine few nodes st =
-    code-agrees (disturbed P d) c before sp image args (q, k) n (disturbed-is-machine P d disturbs machine) (λ i lt. withstands-carries P d disturbs c before pt few i (nodes i lt))
+disturbed-agrees P d c before s q k n pt disturbs machine few nodes st =
+    code-agrees (disturbed P d) c before s (q, k) n (disturbed-is-machine P d disturbs machine) (λ i lt. withstands-carries P d disturbs c before pt few i (nodes i lt))
     record { runs = st.runs; wrote = st.wrote; state = st.state }

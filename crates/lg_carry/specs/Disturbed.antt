@@ -1,13 +1,12 @@
 -- A processor whose bytes below the stack pointer change in any way after each step, as a signal's handler on its stack changes them; and when the code of a
 -- node leads there where it leads without that.
 use Rattle.std.specs.Prelude.{◌≡◌, ℕ, suc, ◌+◌, ◌<◌, ◌≤◌, ◌⊎◌, Bool, true, false, List, Option, None, length, slice_get}
-use Rattle.lg_base.specs.Runs.{Status, Running, Ended, Bad, Machine, IsMachine, iter}
-use Rattle.lg_base.specs.declared.target.Target.{Target}
+use Rattle.lg_base.specs.Runs.{Status, Running, Ended, Bad, iter}
 use Rattle.lg_base.specs.HostNames.{host_by_address}
-use Rattle.lg_carry.specs.Carries.{sinks_at, Leads, Carries}
+use Rattle.lg_carry.specs.Carries.{sinks_at, Leads}
 use Rattle.lg_carry.specs.FinalNodes.{Code}
 use Rattle.lg_carry.specs.Places.{ArePassedFew}
-use Rattle.lg_carry.specs.Processors.{Seen, IsSeen, Processor, is_below, stack_of, DoesNotFall, DoesNotRise}
+use Rattle.lg_carry.specs.Processors.{IsSeen, Processor, is_below, stack_of, DoesNotFall, DoesNotRise}
 use Rattle.lg_carry.specs.Stands.{Stands}
 use Rattle.lg_meaning.specs.States.{Frame, State}
 use Rattle.lg_meaning.specs.Steps.{Outcome}

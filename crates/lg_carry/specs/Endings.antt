@@ -1,5 +1,5 @@
 -- What a run of the meaning and one of its code have in common, besides status and output, from the entry to the end.
-use Rattle.std.specs.Prelude.{◌≡◌, ◌≢◌, ℕ, ◌&&◌, Bool, true, Some, length, ◌<◌}
+use Rattle.std.specs.Prelude.{◌≡◌, ◌≢◌, ℕ, Bool, true, Some, length, ◌<◌}
 use Rattle.lg_base.specs.Conventions.{is_kept, stack_register}
 use Rattle.lg_base.specs.HostNames.{host_by_address}
 use Rattle.lg_base.specs.Runs.{IsMachine}
@@ -15,6 +15,7 @@ use Rattle.lg_carry.specs.Outer.{HasEnded}
 use Rattle.lg_carry.specs.Outside.{is_outside}
 use Rattle.lg_carry.specs.Processors.{Processor}
 use Rattle.lg_carry.specs.Ranks.{StandAlike}
+use Rattle.lg_carry.specs.Stands.{HasParts}
 
 -- a step at the entry of a host function keeps the registers that a call keeps, but for the stack pointer
 abbrev pub HostsKeep : {Q : Type 0} → Processor Q → Type 0
@@ -28,9 +29,11 @@ pub record IsUnwritten (target : Target) (r : ℕ) : Type 0 where
   pub other : r ≢ stack_register target
   pub outside : (moves : Bool) → is_outside target moves r ≡ true
 
--- the processor has the memory of the meaning; where the run has ended it is as that asks; and registers that no code writes hold what they held at the entry
+-- the processor has the memory of the meaning, and nothing else between the data and the heap; where the run has ended it is as that asks; and registers that no
+-- code writes hold what they held at the entry
 pub record AreAlike {Q : Type 0} (P : Processor Q) (c : Code) (r : mean.Run) (q : Q) : Type 0 where
-  pub memory : SharesMemory r.state (P.seen q).bytes (P.seen q).mark
+  pub memory : SharesMemory r.status r.state (P.seen q).bytes (P.seen q).mark
+  pub parts : HasParts r.state (P.seen q).bytes
   pub ended : (e : Ending) → mean.ending_of r ≡ Some e → HasEnded P.target c e (P.seen q)
   pub unwritten : (x : ℕ) → IsUnwritten P.target x → (P.seen q).registers x ≡ c.outer x
 

@@ -1,7 +1,7 @@
 -- What the code keeps for who calls the entry: FP and as many of V0 to V2 as the frames of such functions save.
-use Rattle.std.specs.Prelude.{◌≡◌, ℕ, ◌+◌, ◌<◌, Bool, true, false, List, [], ◌∷◌, Option, ⊤, Some}
+use Rattle.std.specs.Prelude.{◌≡◌, ℕ, ◌+◌, ◌<◌, Bool, true, false, List, [], ◌∷◌, Option, Some}
 use Rattle.lg_base.specs.Conventions.{portable_register, frame_register, stack_register, link_register}
-use Rattle.lg_base.specs.Layout.{stack_end, stop_address, frame_pointer, saved_word}
+use Rattle.lg_base.specs.Layout.{stop_address, frame_pointer, saved_word}
 use Rattle.lg_base.specs.declared.target.Target.{Target}
 use Rattle.lg_meaning.specs.States.{Frame}
 use Rattle.lg_meaning.specs.Steps.{Ending, Exited, Left}
@@ -34,7 +34,7 @@ bottom_at at f (g ∷ gs) = bottom_at f.back g gs
 
 -- before the first `prolog`, that of the function with which the run begins
 pub record IsBeforeEntry (target : Target) (c : Code) (at : ℕ) (registers : ℕ → ℕ) : Type 0 where
-  pub enters : entry_at c.nodes at ≡ c.entry
+  pub enters : c.outward (entry_at c.nodes at) ≡ true
   pub holds : HoldsOuter target c registers
 
 -- and after it

@@ -10,9 +10,8 @@ use Rattle.lg_carry.specs.Processors.{Seen, Processor, IsOff, TouchesAbove}
 use Rattle.lg_carry.specs.Stands.{Stands}
 use Rattle.lg_meaning.specs.Means.{run_at}
 use Rattle.lg_meaning.specs.Means as mean
-use Rattle.lg_meaning.specs.Starts.{start_state_at}
 use Rattle.lg_meaning.specs.States.{Frame, State}
-use Rattle.lg_meaning.specs.Steps.{Outcome, Undefined}
+use Rattle.lg_meaning.specs.Steps.{Undefined}
 use Rattle.lg_meaning.specs.Texts.{step}
 use Rattle.lg_temp.specs.Agrees.{AgreesAt}
 use Rattle.lg_carry.specs.Disturbed.{IsDisturber, disturbed, Overlooks, IsAlike, LeavesAlone, IsSteady, Patches, SinksTo, LiesApart}
@@ -60,7 +59,7 @@ CarriedNodesWithstand {Q} P =
 -- ---- the code
 abbrev pub DisturbedCodeAgrees : {Q : Type 0} → Processor Q → Type 0
 DisturbedCodeAgrees {Q} P =
-    (d : ℕ → Q → Q) (c : Code) (before : ℕ → ℕ → Bool) (sp : ℕ) (image args : List ℕ) (q : Q) (k n : ℕ) → Patches P → IsDisturber P d → IsMachine P.machine
+    (d : ℕ → Q → Q) (c : Code) (before : ℕ → ℕ → Bool) (s : State) (q : Q) (k n : ℕ) → Patches P → IsDisturber P d → IsMachine P.machine
     → ArePassedFew c.nodes.nodes → ((i : ℕ) → i < length c.nodes.nodes → Withstands P c before i)
-    → Stands P c (λ f. before f.back) (start_state_at sp image args) [] q (before 0)
-    → AgreesAt (mean.machine c.nodes c.shape c.addresses) (disturbed P d).machine (length c.nodes.nodes) (run_at (start_state_at sp image args) []) (q, k) n
+    → Stands P c (λ f. before f.back) s [] q (before s.at)
+    → AgreesAt (mean.machine c.nodes c.shape c.addresses) (disturbed P d).machine (length c.nodes.nodes) (run_at s []) (q, k) n

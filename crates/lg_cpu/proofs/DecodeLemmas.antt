@@ -4,7 +4,7 @@ use Rattle.std.specs.Prelude.{IfSome, if◌then◌else◌}
 use Rattle.std.proofs.lemmas.Bool.{eq-eqb}
 use Rattle.lg_base.specs.Fronts.{BeginsWith}
 use Rattle.lg_base.specs.Layout.{code_base}
-use Rattle.lg_base.specs.declared.fault.FaultKind.TheVariants.{Decode, Fetch, Align}
+use Rattle.lg_base.specs.declared.fault.FaultKind.TheVariants.{Fetch, Align}
 use Rattle.lg_base.proofs.WordFrontLemmas.{word_spells}
 use Rattle.lg_rv.specs.Reading as rv_reading
 use Rattle.lg_rv.specs.Spelling as rv

@@ -3,6 +3,7 @@ mod A64OperatorLemmas
 mod ArgumentLemmas
 mod CallLemmas
 mod DecodeLemmas
+mod EnteringLemmas
 mod FaultLemmas
 mod FollowLemmas
 mod OperatorLemmas

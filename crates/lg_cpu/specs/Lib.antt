@@ -6,6 +6,7 @@ pub mod Answers
 pub mod Fetches
 pub mod HostSteps
 pub mod Decodings
+pub mod Entering
 pub mod Laws
 pub mod Loads
 pub mod Machines

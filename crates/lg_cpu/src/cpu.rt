@@ -20,8 +20,8 @@ use std::alloc::Global;
 /// A processor with its memory and its code, before or after any number of steps.
 #[derive(Drop)]
 pub struct Cpu {
-    processor: Processor,
-    answer: CpuStep,
+    pub(crate) processor: Processor,
+    pub(crate) answer: CpuStep,
     steps: u64,
 }
 

@@ -7,6 +7,7 @@ mod arguments;
 mod board;
 pub mod cpu;
 mod decode_cache;
+mod entering;
 pub mod laws;
 mod processor;
 mod riscv64;

@@ -49,4 +49,4 @@ module _ (l : LabelledNodes) (shape : TextShape) (is : IsShapeOf l shape) (forme
 
   pub dead-runs : RunsAreDropped l shape m new_shape origin
   dead-runs = subst (λ (x : LabelledNodes). RunsAreDropped l shape x new_shape origin) (sym d.nodes) (subst (RunsAreDropped l shape dm new_shape) (sym d.from)
-      (λ size A sp image args stack at. dead-dropped l shape new_shape keep d.needs A is formed (are-needs l shape d.needs d.exact d.fp) (subst (λ (x : LabelledNodes). new_shape.functions ≡ functions x.nodes) d.nodes d.shaped.functions) d.taken size at sp image args stack))
+      (λ size A at. dead-dropped l shape new_shape keep d.needs A is formed (are-needs l shape d.needs d.exact d.fp) (subst (λ (x : LabelledNodes). new_shape.functions ≡ functions x.nodes) d.nodes d.shaped.functions) d.taken size at))

@@ -22,7 +22,7 @@ use Rattle.lg_node.proofs.SuccessorLaws.{has_functions}
 use Rattle.lg_node.proofs.WellShaped.{well_shaped}
 use Rattle.lg_meaning.specs.Addresses.{AreAddresses}
 use Rattle.lg_meaning.specs.Fits.{FitsWell}
-use Rattle.lg_meaning.specs.Starts.{IsEntryStack, start_state_at}
+use Rattle.lg_meaning.specs.Starts.{begins_at, entered_state}
 use Rattle.lg_meaning.specs.States.{State, reg, value}
 use Rattle.lg_meaning.specs.Steps.{Outcome, Goes, Ends, Undefined, Text, need, quiet, operand_at, on, on_with_carry, with_reg, operate, binary_step, carry_step, read, address, slot, node_step}
 use Rattle.lg_meaning.specs.Texts.{text, step_at, step}
@@ -37,11 +37,12 @@ use Rattle.lg_opt.specs.Rewritten.{memory_in}
 use Rattle.lg_opt.specs.Paired.{Pair, Dropped, RestsAt, AreStepped}
 use Rattle.lg_opt.specs.Remaining.{new_number, rewritten, no_targets, origins, may_go, IsRewriting}
 use Rattle.lg_opt.specs.Renumbered.{over, Meets, IsRewritten}
-use Rattle.lg_opt.specs.Rewritings.{RunIsDropped}
+use Rattle.lg_opt.specs.Rewritings.{FromEachStart, RunIsDropped}
+use Rattle.lg_opt.proofs.AcceptLemmas.{begins-moved}
 use Rattle.lg_opt.proofs.DropLemmas.{start-over}
 use Rattle.lg_opt.proofs.DropRunLemmas.{drops, drops-look}
 use Rattle.lg_opt.proofs.KeepLemmas.{keeps}
-use Rattle.lg_opt.proofs.MovedLemmas.{stands, label-moved}
+use Rattle.lg_opt.proofs.MovedLemmas.{stands, label-moved, beginning-moved}
 use Rattle.lg_opt.proofs.RemainingLemmas.{number-zero, number-goes}
 use Rattle.lg_opt.proofs.RenumberLemmas.{renumbers}
 use Rattle.lg_opt.proofs.OriginLemmas.{numbered}
@@ -284,13 +285,16 @@ module _ (l : LabelledNodes) (shape new_shape : TextShape) (stays : ℕ → Bool
         by (Some n) true f s h = (s, ap leaps_at (stands l stays no_targets i n f s) ∙ h)
         by (Some n) false f s h = let no : false ≡ true = sym (gone-calm i s) ∙ ap leaps_at f ∙ h in cc
 
-    pub dead-dropped : (sp : ℕ) (image args : List ℕ) → IsEntryStack sp → RunIsDropped l shape (rewritten l stays no_targets) new_shape (origins stays (length l.nodes)) A sp image args
-    dead-dropped sp image args stack =
-        let start : R (start_state_at sp image args) (start_state_at sp image args) = (
-          start_state_at sp image args,
+    pub dead-dropped : FromEachStart l (rewritten l stays no_targets) (RunIsDropped l shape (rewritten l stays no_targets) new_shape (origins stays (length l.nodes)) A)
+    dead-dropped e b may begins =
+        let first : State = entered_state e (begins_at l b) in
+        let second : State = entered_state e (begins_at m b) in
+        let fit = mean_fits l shape A is (well_shaped l is.accepted) (has_functions l is.accepted) formed e b may begins in
+        let start : R first second = (
+          first,
           record {
             regs = λ r. None;
-            frame = (start_state_at sp image args).frame;
+            frame = first.frame;
             callers = [];
             is = refl;
             holds = λ r e. inr refl;
@@ -298,25 +302,26 @@ module _ (l : LabelledNodes) (shape new_shape : TextShape) (stays : ℕ → Bool
             below = tt;
           },
           record {
-            at = 0;
+            at = begins_at m b;
             bit = carry.Undefined;
             result = None;
-            is = start-over nu (number-zero stays) sp image args;
-            lands = sym (number-zero stays);
+            is = start-over nu (number-zero stays) e (begins_at l b) (begins_at m b);
+            lands = beginning-moved l stays no_targets b;
             carries = inl refl;
             answers = inl refl;
           },
         ) in (
-          record {
-            j = _;
-            stays = stays;
-            to = nu;
-            drops = drops p stays nu Good R (λ s k r. ap (λ (y : State). y.at) r.2.is ∙ r.2.lands ∙ ap nu (same-at s r.0 r.1)) stepped gone-calm (start_state_at sp image args) (start_state_at sp image args)
-                (mean_fits l shape A is (well_shaped l is.accepted) (has_functions l is.accepted) formed sp stack image args) start;
-            memory = drops-look p stays nu Good R (λ s k r. ap (λ (y : State). y.at) r.2.is ∙ r.2.lands ∙ ap nu (same-at s r.0 r.1)) stepped gone-calm (start_state_at sp image args) (start_state_at sp image args)
-                (mean_fits l shape A is (well_shaped l is.accepted) (has_functions l is.accepted) formed sp stack image args) start
-                (λ s k r. ap memory_in r.2.is ∙ ap memory_in r.1.is);
-            leaps = leaps-stay;
-          },
-          numbered l stays no_targets,
+          begins-moved l stays no_targets gone-rewrite is.accepted b begins,
+          (
+            record {
+              j = _;
+              stays = stays;
+              to = nu;
+              drops = drops p stays nu Good R (λ s k r. ap (λ (y : State). y.at) r.2.is ∙ r.2.lands ∙ ap nu (same-at s r.0 r.1)) stepped gone-calm first second fit start;
+              memory = drops-look p stays nu Good R (λ s k r. ap (λ (y : State). y.at) r.2.is ∙ r.2.lands ∙ ap nu (same-at s r.0 r.1)) stepped gone-calm first second fit start
+                  (λ s k r. ap memory_in r.2.is ∙ ap memory_in r.1.is);
+              leaps = leaps-stay;
+            },
+            numbered l stays no_targets,
+          ),
         )

@@ -36,6 +36,8 @@ use Rattle.lg_node.proofs.FunctionLaws.{node_within}
 use Rattle.lg_node.proofs.FunctionLemmas.{functions_start, functions_on}
 use Rattle.lg_node.proofs.WalkLemmas.{home_here, home_past, walk_start, walk_on, home_sum}
 use Rattle.lg_node.proofs.WellShaped.{well_shaped}
+use Rattle.lg_meaning.specs.Starts.{begins_at, MayBegin}
+use Rattle.lg_meaning.specs.Steps.{node_in}
 use Rattle.lg_dead.specs.Folds.{IsFoldedTo}
 use Rattle.lg_dead.specs.Known.{made, last_known, as_movi, as_immediate, folded_by, folded, known_before}
 use Rattle.lg_dead.proofs.FoldNodeLemmas.{BinaryMade, UnaryMade, BinaryLast, BranchLast, made-cases, last-cases}
@@ -246,6 +248,15 @@ module _ (l m : LabelledNodes) (a : IsAccepted l) (to : IsFoldedTo l m) where
   entry-same None = refl
   entry-same (Some (place.Image k)) = refl
   entry-same (Some (place.Node k)) = prolog-same k
+
+  -- a run begins at the same node
+  pub beginning-same : (b : Option Label) → begins_at m b ≡ begins_at l b
+  beginning-same None = refl
+  beginning-same (Some y) = ap node_in (place-same y)
+
+  pub begins-same : (b : Option Label) → MayBegin l b → MayBegin m b
+  begins-same None e = tt
+  begins-same (Some y) e = ap (is_entry m.nodes) (place-same y) ∙ entry-same (place_of l.places y) ∙ e
 
   inside-same : (p : ℕ) (o : Option Place) → is_inside m.nodes p o ≡ is_inside l.nodes p o
   inside-same p None = refl

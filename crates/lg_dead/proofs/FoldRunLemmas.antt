@@ -15,6 +15,7 @@ use Rattle.lg_op.specs.declared.op.LastOperand.TheVariants as last_operand
 use Rattle.lg_op.specs.declared.op.PlainOp.TheVariants as plain
 use Rattle.lg_op.specs.declared.form.Form.{Form}
 use Rattle.lg_op.specs.declared.form.Form.TheVariants as form
+use Rattle.lg_op.specs.declared.operand.Label.{Label}
 use Rattle.lg_op.specs.declared.operand.Operand.{Operand}
 use Rattle.lg_op.specs.declared.operand.Operand.TheVariants as operand
 use Rattle.lg_op.specs.declared.operand.Reg.{Reg}
@@ -24,20 +25,23 @@ use Rattle.lg_live.specs.Uses.{is_register, is_call, is_written}
 use Rattle.lg_op.specs.declared.carry.Carry.{Carry}
 use Rattle.lg_op.specs.declared.carry.Carry.TheVariants as carry
 use Rattle.lg_op.specs.Operators.{binary_value, unary_value, keeps_carry, holds}
-use Rattle.lg_node.specs.Labels.{is_labelled}
+use Rattle.lg_node.specs.Labels.{place_of, is_entry, is_labelled}
 use Rattle.lg_node.specs.Nodes.{LabelledNodes}
+use Rattle.lg_node.specs.declared.place.Place.{Place}
+use Rattle.lg_node.specs.declared.place.Place.TheVariants as place
 use Rattle.lg_node.specs.Shapes.{TextShape, IsShapeOf}
 use Rattle.lg_node.proofs.FunctionLaws.{node_within}
 use Rattle.lg_node.proofs.SuccessorLaws.{has_functions}
 use Rattle.lg_node.proofs.WellShaped.{well_shaped}
 use Rattle.lg_meaning.specs.Fits.{FitsWell, AreLinked}
 use Rattle.lg_meaning.specs.Means.{mean_from}
-use Rattle.lg_meaning.specs.Starts.{IsEntryStack, start_state_at}
+use Rattle.lg_meaning.specs.Starts.{Entry, MayEnter, begins_at, MayBegin, entered_state}
 use Rattle.lg_meaning.specs.States.{Frame, State, reg, value}
-use Rattle.lg_meaning.specs.Steps.{Goes, Text, need, quiet, operand_at, on, on_with_carry, with_reg, with_word, operate, branch, binary_step, carry_step, node_step}
+use Rattle.lg_meaning.specs.Steps.{Goes, Text, need, quiet, operand_at, on, on_with_carry, with_reg, with_word, operate, branch, binary_step, carry_step, node_in, node_step}
 use Rattle.lg_meaning.specs.Texts.{text, step_at, step}
 use Rattle.lg_meaning.proofs.KeepLemmas.{steps_fit}
-use Rattle.lg_meaning.proofs.MeanLemmas.{always, formed_at, start_fits_well}
+use Rattle.lg_meaning.proofs.MeanLemmas.{always, formed_at}
+use Rattle.lg_meaning.proofs.StartLemmas.{start_fits}
 use Rattle.lg_meaning.proofs.Outcomes.{on_result}
 use Rattle.lg_carry.specs.Carries.{leaps, leaps_at}
 use Rattle.lg_carry.proofs.FallLemmas.{nodes-fall}
@@ -45,7 +49,8 @@ use Rattle.lg_opt.specs.Rewritten.{memory_in}
 use Rattle.lg_opt.specs.Paired.{Pair, AreStepped}
 use Rattle.lg_opt.specs.Renumbered.{over, Alike, Meets, Renumbers, IsRewritten}
 use Rattle.lg_opt.specs.Remaining.{origins}
-use Rattle.lg_opt.specs.Rewritings.{RunIsDropped}
+use Rattle.lg_opt.specs.Rewritings.{FromEachStart, RunIsDropped}
+use Rattle.lg_opt.proofs.LabelLemmas.{labelled-at}
 use Rattle.lg_opt.proofs.ArrivalLemmas.{Arrives, leap-arrives}
 use Rattle.lg_opt.proofs.DropLemmas.{start-over}
 use Rattle.lg_opt.proofs.DropRunLemmas.{drops, drops-look}
@@ -55,6 +60,7 @@ use Rattle.lg_opt.proofs.OriginLemmas.{all-numbered}
 use Rattle.lg_opt.proofs.StepLemmas.{steps-meet}
 use Rattle.lg_dead.specs.Known.{number_in, made, last_known, as_movi, as_immediate, folded_by, folded, none_known, moved_number, or_else, known_after, known_at, known_before, can_be_folded, HasNoFolds}
 use Rattle.lg_dead.specs.Folds.{IsFoldedTo}
+use Rattle.lg_dead.proofs.FoldAcceptLemmas.{beginning-same, begins-same}
 use Rattle.lg_dead.proofs.FoldNodeLemmas.{BinaryMade, UnaryMade, BinaryLast, BranchLast, made-cases, last-cases, no-more}
 
 -- registers hold the numbers that are known of them
@@ -453,12 +459,22 @@ module _ (l m : LabelledNodes) (shape new_shape : TextShape) (A : List ℕ) (is 
               subst (AreKnown u) (sym (ap (known_before m) at ∙ next-known s.at n.0 n.1 h f))
               (known-on (text l shape A) n.0 s u bytes (known_before m s.at) good.1 (at-form s.at n.0 n.1) h went)
 
-  all-good : (sp : ℕ) (image args : List ℕ) → IsEntryStack sp → (k : ℕ) → Good (mean_from l shape A (start_state_at sp image args) k).state
+  -- nothing is known at the first node, and at a label
+  fresh-start : (b : Option Label) → MayBegin l b → known_before m (begins_at l b) ≡ none_known
   unfolding known_before
-  all-good sp image args stack k = always l shape A Good
+  fresh-start None h = refl
+  fresh-start (Some x) h = at-place (place_of l.places x) refl h
+    where
+      at-place : (o : Option Place) → place_of l.places x ≡ o → is_entry l.nodes o ≡ true → known_before m (node_in o) ≡ none_known
+      at-place None e f = cc
+      at-place (Some (place.Image k)) e f = cc
+      at-place (Some (place.Node k)) e f = fresh-at k (ap (λ ps. is_labelled ps k) to.places ∙ labelled-at l.places x k e)
+
+  all-good : (e : Entry) (b : Option Label) → MayEnter e → MayBegin l b → (k : ℕ) → Good (mean_from l shape A (entered_state e (begins_at l b)) k).state
+  all-good e b may begins k = always l shape A Good
       (λ s u bytes good g. (steps_fit l shape A s u bytes is (well_shaped l is.accepted) (has_functions l is.accepted) (at-form s.at) good.0 g, known-step s u bytes good g))
-      (start_state_at sp image args)
-      (start_fits_well l shape A is (well_shaped l is.accepted) (has_functions l is.accepted) formed sp stack image args, λ r v e. absurd (nothing v e))
+      (entered_state e (begins_at l b))
+      (start_fits l shape is (well_shaped l is.accepted) (has_functions l is.accepted) e may b begins, at-fresh (entered_state e (begins_at l b)) (fresh-start b begins))
       k
 
   meets : (s k : State) → Good s → Alike stay-put Lands s k → true ≡ true → Meets (Alike stay-put Lands) (step l shape A s) (step m new_shape A k)
@@ -483,27 +499,32 @@ module _ (l m : LabelledNodes) (shape new_shape : TextShape) (A : List ℕ) (is 
       by None f h = cc
       by (Some n) f h = (refl, ap leaps_at (to.nodes i n f) ∙ folded-leaps (known_before m i) n ∙ h)
 
-  pub folded-follow : (sp : ℕ) (image args : List ℕ) → IsEntryStack sp → RunIsDropped l shape m new_shape (origins (λ i. true) (length l.nodes)) A sp image args
-  folded-follow sp image args stack =
-      let start : Alike stay-put Lands (start_state_at sp image args) (start_state_at sp image args) = record {
-        at = 0;
+  pub folded-follow : FromEachStart l m (RunIsDropped l shape m new_shape (origins (λ i. true) (length l.nodes)) A)
+  folded-follow e b may begins =
+      let first : State = entered_state e (begins_at l b) in
+      let second : State = entered_state e (begins_at m b) in
+      let start : Alike stay-put Lands first second = record {
+        at = begins_at m b;
         bit = carry.Undefined;
         result = None;
-        is = start-over stay-put refl sp image args;
-        lands = refl;
+        is = start-over stay-put refl e (begins_at l b) (begins_at m b);
+        lands = beginning-same l m is.accepted to b;
         carries = inl refl;
         answers = inl refl;
       } in (
-        record {
-          j = _;
-          stays = λ i. true;
-          to = stay-put;
-          drops = drops p (λ i. true) stay-put Good (Alike stay-put Lands) (λ s k a. ap (λ (x : State). x.at) a.is ∙ a.lands) stepped (λ i e. absurd (never e)) (start_state_at sp image args) (start_state_at sp image args) (all-good sp image args stack) start;
-          memory = drops-look p (λ i. true) stay-put Good (Alike stay-put Lands) (λ s k a. ap (λ (x : State). x.at) a.is ∙ a.lands) stepped (λ i e. absurd (never e)) (start_state_at sp image args) (start_state_at sp image args) (all-good sp image args stack) start
-              (λ s k a. ap memory_in a.is);
-          leaps = leaps-stay;
-        },
-        all-numbered l,
+        begins-same l m is.accepted to b begins,
+        (
+          record {
+            j = _;
+            stays = λ i. true;
+            to = stay-put;
+            drops = drops p (λ i. true) stay-put Good (Alike stay-put Lands) (λ s k a. ap (λ (x : State). x.at) a.is ∙ a.lands) stepped (λ i e. absurd (never e)) first second (all-good e b may begins) start;
+            memory = drops-look p (λ i. true) stay-put Good (Alike stay-put Lands) (λ s k a. ap (λ (x : State). x.at) a.is ∙ a.lands) stepped (λ i e. absurd (never e)) first second (all-good e b may begins) start
+                (λ s k a. ap memory_in a.is);
+            leaps = leaps-stay;
+          },
+          all-numbered l,
+        ),
       )
 
 -- none of them can be folded again

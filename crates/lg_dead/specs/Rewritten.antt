@@ -7,14 +7,13 @@ use Rattle.lg_node.specs.Shapes.{TextShape, IsShapeOf}
 use Rattle.lg_live.specs.Definitions.{defines}
 use Rattle.lg_meaning.specs.Addresses.{AreAddresses}
 use Rattle.lg_opt.specs.Hops.{is_jump}
-use Rattle.lg_opt.specs.Rewritings.{IsOrigin, IsThreadedNode, IsTidy, KeepsOthers, KeepsLabels, IsThreadedTo}
+use Rattle.lg_opt.specs.Rewritings.{IsOrigin, IsThreadedNode, IsTidy, KeepsOthers, KeepsLabels, IsThreadedTo, FromEachStart}
 use Rattle.lg_opt.specs.Rewritings as moves
 use Rattle.lg_opt.specs.Runs.{AreDropped}
 use Rattle.lg_dead.specs.Dropping as definitions
 use Rattle.lg_dead.specs.Folds.{IsFoldedNode, IsFoldedTo, ComesFolded}
 use Rattle.lg_dead.specs.Known.{HasNoFolds}
 use Rattle.lg_dead.specs.Dead.{HasNoDeadButMoves}
-use Rattle.lg_meaning.specs.Starts.{IsEntryStack}
 
 -- what may be dropped: definitions, and jumps to labels
 abbrev pub is_droppable : Op → Bool
@@ -66,6 +65,6 @@ pub record AreFinal (l m : LabelledNodes) (shape : TextShape) (origin : List ℕ
   pub labels : KeepsLabels l m origin
   pub made : ComesThreaded l m shape origin
 
--- over addresses of the labels in the new nodes the new run steps with the old one, or rests
+-- over addresses of the labels in the new nodes the new run steps with the old one, or rests, from each start
 abbrev pub RunsRest : LabelledNodes → TextShape → LabelledNodes → TextShape → Type 0
-RunsRest l shape m new_shape = (size : ℕ) (addresses : List ℕ) (sp : ℕ) (image args : List ℕ) → IsEntryStack sp → AreAddresses m size addresses → AreDropped l shape m new_shape addresses sp image args
+RunsRest l shape m new_shape = (size : ℕ) (addresses : List ℕ) → AreAddresses m size addresses → FromEachStart l m (AreDropped l shape m new_shape addresses)

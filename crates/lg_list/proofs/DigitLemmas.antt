@@ -1,4 +1,4 @@
--- Numbers of one and of two decimal digits.
+-- Numbers of one, two and three decimal digits.
 use Rattle.std.proofs.Common.{◌≡◌, ◌≢◌, ℕ, suc, ◌/◌, ◌%◌, ◌<◌, ◌≤◌, false, List, [], ◌∷◌, ap, ◌∙◌, arith}
 use Rattle.std.specs.Prelude.{if◌then◌else◌}
 use Rattle.std.specs.Fmt.{digits, digits_onto, digit_glyph}
@@ -25,3 +25,9 @@ decimal-one n low = onto_last 63 n [] low
 pub decimal-two : (n : ℕ) → 10 ≤ n → n < 100 → decimal n ≡ digit_glyph false (n / 10) ∷ digit_glyph false (n % 10) ∷ []
 unfolding digits
 decimal-two n high low = onto_more 63 n [] high ∙ onto_last 62 (n / 10) (digit_glyph false (n % 10) ∷ []) (omega (arith, high, low))
+
+pub decimal-three : (n : ℕ) → 100 ≤ n → n < 1000 → decimal n ≡ digit_glyph false (n / 10 / 10) ∷ digit_glyph false (n / 10 % 10) ∷ digit_glyph false (n % 10) ∷ []
+unfolding digits
+decimal-three n high low =
+    onto_more 63 n [] (omega (arith, high)) ∙ onto_more 62 (n / 10) (digit_glyph false (n % 10) ∷ []) (omega (arith, high))
+    ∙ onto_last 61 (n / 10 / 10) (digit_glyph false (n / 10 % 10) ∷ digit_glyph false (n % 10) ∷ []) (omega (arith, low))

@@ -5,4 +5,5 @@ pub mod ListingLemmas
 pub mod TextLemmas
 pub mod WriteLemmas
 pub mod NextLemmas
+pub mod PairLemmas
 pub mod AllLemmas

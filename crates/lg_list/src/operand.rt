@@ -147,9 +147,9 @@ impl Line {
         self.push_hex(&address.to_be_bytes());
     }
 
-    // Appends an operand after what is before it.
+    /// Appends an operand after what is before it.
     #[inline(always)]
-    fn push_after(&mut self, before: &[u8], operand: Operand)
+    pub(crate) fn push_after(&mut self, before: &[u8], operand: Operand)
         requires before { length before.now ≤ 2 }
         requires room { length self.old + 51 ≤ 288 }
         ensures value { self.new ≡ self.old ++ before.now ++ spelled operand }

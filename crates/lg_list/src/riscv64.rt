@@ -1,19 +1,13 @@
 // The text of RV64IM instructions.
 
-ghost use Rattle.std.specs.Prelude.{◌≡◌, ◌<◌, ◌≤◌, ◌+◌, ◌*◌, ◌^◌, ◌%◌, ◌++◌, length};
+ghost use Rattle.std.specs.Prelude.{◌≡◌, ◌<◌, ◌≤◌, ◌+◌, ◌*◌, ◌^◌, ◌%◌, ◌++◌, codes, length};
 ghost use Rattle.std.specs.Int.{w32, cast_unsigned};
-ghost use Rattle.lg_list.specs.Operands.{listed};
+ghost use Rattle.lg_list.specs.Operands.{spelled, spelled_after};
 ghost use Rattle.lg_list.specs.Riscv64.{is_access, register, memory, target, imm_operands, operands, text_of};
 
 use crate::line::Line;
-use crate::operand::{Operand, Operands, Register};
+use crate::operand::{Operand, Register};
 use lg_rv::{ImmOp, Instr};
-
-fn x(number: u8) -> Operand
-    ensures { result ≡ register number }
-{
-    Operand::Register(Register::X(number))
-}
 
 #[tactic(auto, unfolding(crate::specs::Riscv64::target))]
 fn target(at: u32, offset: i32) -> Operand
@@ -48,39 +42,90 @@ fn is_access(op: ImmOp) -> bool
     )
 }
 
-// Returns the operands of an instruction with a number.
-fn imm_operands(op: ImmOp, rd: u8, rs1: u8, imm: i32) -> Operands
-    ensures { listed result ≡ imm_operands op rd rs1 imm }
+// Appends a register after what is before it.
+#[inline(always)]
+fn push_x(line: &mut Line, before: &[u8], number: u8)
+    requires before { length before.now ≤ 2 }
+    requires room { length line.old + 25 ≤ 288 }
+    ensures text { line.new ≡ line.old ++ before.now ++ spelled (register number) }
+    ensures room { length line.new ≤ length line.old + 25 }
+{
+    line.push(before);
+    line.push(b"x");
+    line.push_decimal(u64::from(number));
+}
+
+// Appends two registers, the first of an instruction's operands.
+#[inline(always)]
+fn push_two(line: &mut Line, first: u8, second: u8)
+    requires { length line.old + 50 ≤ 288 }
+    ensures text { line.new ≡ line.old ++ codes " " ++ spelled (register first) ++ codes ", " ++ spelled (register second) }
+    ensures room { length line.new ≤ length line.old + 50 }
+{
+    push_x(line, b" ", first);
+    push_x(line, b", ", second);
+}
+
+// Appends a register, the first of an instruction's operands, and another operand.
+#[inline(always)]
+fn push_with(line: &mut Line, first: u8, other: Operand)
+    requires { length line.old + 76 ≤ 288 }
+    ensures text { line.new ≡ line.old ++ codes " " ++ spelled (register first) ++ codes ", " ++ spelled other }
+    ensures room { length line.new ≤ length line.old + 76 }
+{
+    push_x(line, b" ", first);
+    line.push_after(b", ", other);
+}
+
+// Appends the operands of an instruction with a number.
+fn push_imm(line: &mut Line, op: ImmOp, rd: u8, rs1: u8, imm: i32)
+    requires { length line.old ≤ 68 }
+    ensures text { line.new ≡ line.old ++ spelled_after (codes " ") (imm_operands op rd rs1 imm) }
+    ensures room { length line.new ≤ 272 }
 {
     if is_access(op) {
-        Operands::Two(x(rd), memory(rs1, imm))
+        push_with(line, rd, memory(rs1, imm));
     } else {
-        Operands::Three(x(rd), x(rs1), Operand::Signed(i64::from(imm)))
+        push_two(line, rd, rs1);
+        line.push(b", ");
+        line.push_signed(i64::from(imm));
     }
 }
 
-// Returns the operands of an instruction at an address.
-fn operands(at: u32, instr: &Instr) -> Operands
-    ensures { listed result ≡ operands at instr.now }
+// Appends the operands of an instruction at an address.
+fn push_operands(line: &mut Line, at: u32, instr: &Instr)
+    requires { length line.old ≤ 68 }
+    ensures text { line.new ≡ line.old ++ spelled_after (codes " ") (operands at instr.now) }
+    ensures room { length line.new ≤ 272 }
 {
     match *instr {
-        Instr::Upper { rd, imm, .. } => Operands::Two(x(rd), Operand::Unsigned(u64::from(imm))),
-        Instr::Jal { rd, offset } => Operands::Two(x(rd), target(at, offset)),
+        Instr::Upper { rd, imm, .. } => push_with(line, rd, Operand::Unsigned(u64::from(imm))),
+        Instr::Jal { rd, offset } => push_with(line, rd, target(at, offset)),
         Instr::Branch {
             rs1,
             rs2,
             offset,
             ..
-        } => Operands::Three(x(rs1), x(rs2), target(at, offset)),
-        Instr::Imm { op, rd, rs1, imm } => imm_operands(op, rd, rs1, imm),
+        } => {
+            push_two(line, rs1, rs2);
+            line.push_after(b", ", target(at, offset));
+        }
+        Instr::Imm { op, rd, rs1, imm } => push_imm(line, op, rd, rs1, imm),
         Instr::Shift {
             rd,
             rs1,
             amount,
             ..
-        } => Operands::Three(x(rd), x(rs1), Operand::Unsigned(u64::from(amount))),
-        Instr::Store { rs1, rs2, imm, .. } => Operands::Two(x(rs2), memory(rs1, imm)),
-        Instr::Reg { rd, rs1, rs2, .. } => Operands::Three(x(rd), x(rs1), x(rs2)),
+        } => {
+            push_two(line, rd, rs1);
+            line.push(b", ");
+            line.push_decimal(u64::from(amount));
+        }
+        Instr::Store { rs1, rs2, imm, .. } => push_with(line, rs2, memory(rs1, imm)),
+        Instr::Reg { rd, rs1, rs2, .. } => {
+            push_two(line, rd, rs1);
+            push_x(line, b", ", rs2);
+        }
     }
 }
 
@@ -91,5 +136,6 @@ pub fn push_instruction(line: &mut Line, at: u32, instr: &Instr)
     ensures room { length line.new ≤ 272 }
 {
     let name = instr.name();
-    line.push_named(name.as_slice(), operands(at, instr));
+    line.push(name.as_slice());
+    push_operands(line, at, instr);
 }

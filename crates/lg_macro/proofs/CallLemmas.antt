@@ -1,6 +1,6 @@
 -- Calls and their arguments, piece by piece.
-use Rattle.std.proofs.Common.{◌≡◌, append_assoc, ℕ, suc, ◌+◌, ◌-◌, ◌<◌, ◌≤◌, ◌==◌, ◌&&◌, Bool, true, false, if◌then◌else◌, List, [], ◌∷◌, ◌++◌, length, take, drop, refl, sym, ap, ap₂, ◌∙◌, arith, add-one, fold, Option, Some, None}
-use Rattle.std.proofs.lemmas.List.{drop_all, drop-take, length-take-le, take_all}
+use Rattle.std.proofs.Common.{◌≡◌, append_assoc, ℕ, suc, ◌+◌, ◌-◌, ◌<◌, ◌≤◌, ◌==◌, ◌&&◌, Bool, true, false, if◌then◌else◌, List, [], ◌∷◌, ◌++◌, length, take, drop, refl, sym, ap, ap₂, ◌∙◌, arith, add-one, length-drop, fold, Option, Some, None}
+use Rattle.std.proofs.lemmas.List.{drop_all, drop-drop, drop-take, get_or-drop, length-take-le, take_all}
 use Rattle.std.proofs.Math.Seq.{drop-cons, take-suc}
 use Rattle.std.specs.List.{prefix_len}
 use Rattle.lg_macro.specs.Pieces.{Piece, piece_at, no_piece, is_white, is_byte, between}
@@ -142,6 +142,20 @@ unfolding stripped
 between_solid pieces start end h e1 e2 =
     let e : start + (end - start) ≡ end = omega arith in
     sym (drop-take start (end - start) pieces) ∙ rw e (rw (e2, e1) refl)
+
+-- places that are counted from another place
+pub between_from : (from start end : ℕ) (pieces : List Piece) → between (from + start) (from + end) pieces ≡ between start end (drop from pieces)
+between_from from start end pieces =
+    let n : from + end - (from + start) ≡ end - start = omega arith in
+    ap₂ (λ (k : ℕ) (l : List Piece). take k l) n (sym (drop-drop start from pieces))
+
+-- one piece more
+pub between_more : (from at : ℕ) (pieces : List Piece) → from ≤ at → at < length pieces → between from (at + 1) pieces ≡ between from at pieces ++ piece_at pieces at ∷ []
+between_more from at pieces h lt =
+    let n : at + 1 - from ≡ suc (at - from) = omega arith in
+    let k : from + (at - from) ≡ at = omega arith in
+    let room : at - from < length (drop from pieces) = rw length-drop (omega arith) in
+    rw n (take-suc (drop from pieces) (at - from) no_piece room) ∙ ap (λ (p : Piece). between from at pieces ++ p ∷ []) (get_or-drop from pieces (at - from) no_piece ∙ ap (piece_at pieces) k)
 
 pub append_more : (self new pieces : List Piece) (at end : ℕ) → at < end → end ≤ length pieces → new ≡ self ++ piece_at pieces at ∷ [] → new ++ between (at + 1) end pieces ≡ self ++ between at end pieces
 append_more self new pieces at end h inside e = rw (e, append_assoc, between_cons at end pieces h inside) refl

@@ -1,14 +1,17 @@
 -- Directives' pieces, parameters and bodies, piece by piece.
-use Rattle.std.proofs.Common.{◌≡◌, ℕ, suc, ◌+◌, ◌<◌, ◌≤◌, true, false, ◌&&◌, List, [], ◌∷◌, ◌++◌, length, drop, get_or, fold, refl, ap, ◌∙◌, arith, append_assoc, append-nil, Some, None}
+use Rattle.std.proofs.Common.{◌≡◌, ℕ, suc, ◌+◌, ◌<◌, ◌≤◌, ◌==◌, Bool, true, false, not, ◌&&◌, List, [], ◌∷◌, ◌++◌, length, drop, get_or, fold, refl, sym, ap, ◌∙◌, arith, append_assoc, append-nil, Some, None}
 use Rattle.std.proofs.Math.Seq.{drop-cons}
 use Rattle.std.proofs.lemmas.List.{drop_all}
 use Rattle.std.specs.List.{list_any}
 use Rattle.std.specs.Str.{bytes_eq}
-use Rattle.lg_macro.specs.Pieces.{Piece, piece_at, between, is_byte, is_feed}
+use Rattle.lg_macro.specs.Pieces.{Piece, piece_at, between, is_byte, is_feed, is_spaced}
+use Rattle.std.proofs.lemmas.Bool.{true≢false}
+use Rattle.lg_macro.specs.declared.pieces.PieceKind.{PieceKind}
+use Rattle.lg_macro.specs.declared.pieces.PieceKind.TheVariants.{Comment, Feed, Quoted, Word, Number, Byte}
 use Rattle.lg_lex.specs.Bytes.{further}
 use Rattle.lg_macro.specs.Arguments.{gathered}
-use Rattle.lg_macro.specs.Defines.{first_is_feed, spaced, spliced, to_close, one_word, names_of, no_group, parameters_of}
-use Rattle.lg_macro.proofs.CallLemmas.{drop_piece, further_more, between_cons, between_end}
+use Rattle.lg_macro.specs.Defines.{first_is_feed, is_straight, spaced, spliced, to_close, one_word, names_of, no_group, parameters_of}
+use Rattle.lg_macro.proofs.CallLemmas.{drop_piece, further_more, between_cons, between_end, between_more}
 
 pub splice_more : (at end : ℕ) (pieces out : List Piece) → at < end → end ≤ length pieces → (is_byte 92 (piece_at pieces at).kind && first_is_feed (between (at + 1) end pieces)) ≡ true → out ++ spliced (between (at + 1) end pieces) ≡ out ++ spliced (between at end pieces)
 unfolding spliced
@@ -21,6 +24,41 @@ spaced_more at end pieces out new h inside test e = rw (between_cons at end piec
 pub spliced_end : (at end : ℕ) (pieces out : List Piece) → end ≤ at → out ++ spliced (between at end pieces) ≡ out
 unfolding spliced
 spliced_end at end pieces out h = rw (between_end at end pieces h) (append-nil out)
+
+no_slash : (kind : PieceKind) → is_straight kind ≡ true → is_byte 92 kind ≡ false
+no_slash Comment e = refl
+no_slash Feed e = refl
+no_slash Quoted e = refl
+no_slash Word e = refl
+no_slash Number e = refl
+no_slash (Byte b) e = by (b == 92) refl e
+  where
+    by : (t : Bool) → (b == 92) ≡ t → not (b == 92) ≡ true → (b == 92) ≡ false
+    by true f n = absurd (true≢false (sym n ∙ ap not f))
+    by false f n = f
+
+not_spaced : (kind : PieceKind) → is_straight kind ≡ true → is_spaced kind ≡ false
+not_spaced Comment e = absurd (true≢false (sym e))
+not_spaced Feed e = absurd (true≢false (sym e))
+not_spaced Quoted e = refl
+not_spaced Word e = refl
+not_spaced Number e = refl
+not_spaced (Byte b) e = refl
+
+straight_first : (p : Piece) (rest : List Piece) → is_straight p.kind ≡ true → spliced (p ∷ rest) ≡ p ∷ spliced rest
+unfolding spliced
+straight_first p rest e = let f = no_slash p.kind e in let g = not_spaced p.kind e in rw (f, g) refl
+
+-- a piece that stays as it is
+pub straight_more : (from at end : ℕ) (pieces : List Piece) → from ≤ at → at < end → end ≤ length pieces → is_straight (piece_at pieces at).kind ≡ true
+    → between from at pieces ++ spliced (between at end pieces) ≡ spliced (between from end pieces)
+    → between from (at + 1) pieces ++ spliced (between (at + 1) end pieces) ≡ spliced (between from end pieces)
+straight_more from at end pieces h lt inside e so_far =
+    ap (λ (l : List Piece). l ++ spliced (between (at + 1) end pieces)) (between_more from at pieces h (omega (arith, lt, inside)))
+    ∙ append_assoc (between from at pieces) (piece_at pieces at ∷ []) (spliced (between (at + 1) end pieces))
+    ∙ ap (λ (l : List Piece). between from at pieces ++ l)
+    (sym (ap spliced (between_cons at end pieces lt inside) ∙ straight_first (piece_at pieces at) (between (at + 1) end pieces) e))
+    ∙ so_far
 
 -- the first piece of those between two places
 pub first_between : (at end : ℕ) (pieces : List Piece) → at < end → end ≤ length pieces → first_is_feed (between at end pieces) ≡ is_feed (piece_at pieces at).kind
@@ -88,3 +126,10 @@ folded step pieces at made next h e = rw (drop_piece pieces at h, e) refl
 
 pub folded_end : {A : Type 0} (step : A → Piece → A) (pieces : List Piece) (at : ℕ) (made : A) → length pieces ≤ at → fold step made (drop at pieces) ≡ made
 folded_end step pieces at made h = rw (drop_all at pieces h) refl
+
+pub folded_more : {A : Type 0} (step : A → Piece → A) (pieces : List Piece) (at end : ℕ) (made next : A) → at < end → end ≤ length pieces → next ≡ step made (piece_at pieces at)
+    → fold step next (between (at + 1) end pieces) ≡ fold step made (between at end pieces)
+folded_more step pieces at end made next h inside e = rw (between_cons at end pieces h inside, e) refl
+
+pub folded_all : {A : Type 0} (step : A → Piece → A) (pieces : List Piece) (at end : ℕ) (made : A) → end ≤ at → fold step made (between at end pieces) ≡ made
+folded_all step pieces at end made h = rw (between_end at end pieces h) refl

@@ -4,5 +4,6 @@ pub mod DefineLemmas
 pub mod FeedLemmas
 pub mod FillLemmas
 pub mod PieceLemmas
+pub mod RowLemmas
 pub mod TableLemmas
 pub mod TextLemmas

@@ -11,7 +11,7 @@ use Rattle.lg_macro.specs.declared.macros.Macro.{Macro}
 use Rattle.lg_macro.specs.Pieces.{Piece, piece_at, is_white, is_byte, is_feed, is_spaced, is_word}
 use Rattle.lg_macro.specs.declared.macros.Mark.{Mark}
 use Rattle.lg_macro.specs.declared.pieces.PieceKind.{PieceKind}
-use Rattle.lg_macro.specs.declared.pieces.PieceKind.TheVariants.{Byte, Word}
+use Rattle.lg_macro.specs.declared.pieces.PieceKind.TheVariants.{Byte, Comment, Feed, Word}
 
 -- ---- the pieces of a directive
 
@@ -26,6 +26,13 @@ spaced p = if is_spaced p.kind then record { kind = Byte 32; text = 32 ∷ []; l
 unfoldable pub spliced : List Piece → List Piece
 spliced [] = []
 spliced (p ∷ rest) = if is_byte 92 p.kind && first_is_feed rest then spliced rest else spaced p ∷ spliced rest
+
+-- a piece that stays as it is, whatever comes next
+abbrev pub is_straight : PieceKind → Bool
+is_straight Comment = false
+is_straight Feed = false
+is_straight (Byte b) = not (b == 92)
+is_straight kind = true
 
 -- ---- parameters
 

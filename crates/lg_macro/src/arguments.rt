@@ -87,24 +87,51 @@ fn push_in(now: &mut Pieces, pieces: &Pieces, at: usize, line: u32) -> Result<()
     }
 }
 
-// Returns the pieces to the last that is no white space, that included.
-fn solid_len(pieces: &Pieces) -> usize
-    ensures value { result ≡ solid_len pieces.now }
-    ensures inside { result ≤ length pieces.now }
+// Returns the pieces from a place to the last that is no white space, that included.
+fn solid_len(pieces: &Pieces, from: usize) -> usize
+    requires { from ≤ length pieces.now }
+    ensures value { result ≡ solid_len (drop from pieces.now) }
+    ensures inside { from + result ≤ length pieces.now }
 {
-    let mut n = pieces.len();
-    'white: while n > 0 && pieces.kind(n - 1).is_white() {
+    let mut n = pieces.len() - from;
+    'white: while n > 0 && pieces.kind(from + (n - 1)).is_white() {
         n -= 1;
     }
     n
+}
+
+// Returns the white space in front of the first n pieces from a place.
+fn white_len(pieces: &Pieces, from: usize, end: usize) -> usize
+    requires { from + end ≤ length pieces.now }
+    ensures value { result ≡ prefix_len (λ p. is_white p.kind) (take end (drop from pieces.now)) }
+    ensures inside { result ≤ end }
+{
+    let _end = pieces.len();
+    let mut n = 0;
+    'white: while n < end && pieces.kind(from + n).is_white() {
+        n += 1;
+    }
+    n
+}
+
+/// Returns where the pieces from a place on begin and end, without the white space at their ends.
+pub(crate) fn solid_range(pieces: &Pieces, from: usize) -> (usize, usize)
+    requires { from ≤ length pieces.now }
+    ensures value { between result.0 result.1 pieces.now ≡ stripped (drop from pieces.now) }
+    ensures order { result.0 ≤ result.1 }
+    ensures inside { result.1 ≤ length pieces.now }
+{
+    let _end = pieces.len();
+    let len = solid_len(pieces, from);
+    let white = white_len(pieces, from, len);
+    (from + white, from + len)
 }
 
 /// Pieces without the white space at their ends. They are not copied where none is there.
 pub fn without_ends(spare: &mut Spare, pieces: Pieces) -> Result<Pieces, OutOfMemory>
     ensures { IfOk result (λ r. r ≡ stripped pieces) }
 {
-    let end = solid_len(&pieces);
-    let start = white_len(&pieces, end);
+    let (start, end) = solid_range(&pieces, 0);
     if start == 0 && end == pieces.len() {
         return Ok(pieces);
     }
@@ -112,19 +139,6 @@ pub fn without_ends(spare: &mut Spare, pieces: Pieces) -> Result<Pieces, OutOfMe
     solid.append_between(&pieces, start, end)?;
     spare.give(pieces);
     Ok(solid)
-}
-
-// Returns the white space in front of the first n pieces.
-fn white_len(pieces: &Pieces, end: usize) -> usize
-    requires { end ≤ length pieces.now }
-    ensures value { result ≡ prefix_len (λ p. is_white p.kind) (take end pieces.now) }
-    ensures inside { result ≤ end }
-{
-    let mut n = 0;
-    'white: while n < end && pieces.kind(n).is_white() {
-        n += 1;
-    }
-    n
 }
 
 // Adds an argument, without the white space at its ends.

@@ -3,7 +3,7 @@
 ghost use Rattle.std.specs.Prelude.{◌≡◌, ◌++◌, ◌∷◌, ◌<◌, ◌≤◌, [], length, fold, min, ◌+◌, IfOk, OnOk};
 ghost use Rattle.lg_macro.specs.Defines.{no_body, plain, with_plain, at_sign, at_white, at_solid, with_piece, body_of, parameter_by, place_of, with_len, size_of};
 ghost use Rattle.lg_macro.specs.Macros.{most};
-ghost use Rattle.lg_macro.specs.Pieces.{piece_at};
+ghost use Rattle.lg_macro.specs.Pieces.{piece_at, between};
 
 use crate::macros::Mark;
 use crate::marks::Marks;
@@ -149,16 +149,20 @@ fn take_piece(
     take_solid(body, names, pieces, at)
 }
 
-/// Returns the body that pieces make.
+/// Returns the body that the pieces between two places make.
 pub(crate) fn body_of(
     alloc: Global,
     names: &[PlainText],
     pieces: &Pieces,
+    from: usize,
+    end: usize,
 ) -> Result<Body, OutOfMemory>
-    ensures { IfOk result (λ b. b ≡ body_of names.now pieces.now) }
+    requires order { from ≤ end }
+    requires inside { end ≤ length pieces.now }
+    ensures { IfOk result (λ b. b ≡ body_of names.now (between from end pieces.now)) }
 {
     let mut body = no_body(alloc);
-    'pieces: for at in 0..pieces.len() {
+    'pieces: for at in from..end {
         take_piece(&mut body, names, pieces, at)?;
     }
     Ok(body)
@@ -177,12 +181,14 @@ fn with_len(n: usize, pieces: &Pieces, at: usize) -> usize
     (n + len).min(MOST_TEXT + 1)
 }
 
-/// Returns the bytes of pieces, as far as they matter: at most 16,777,217.
-pub(crate) fn size_of(pieces: &Pieces) -> usize
-    ensures { result ≡ size_of pieces.now }
+/// Returns the bytes of the pieces between two places, as far as they matter: at most 16,777,217.
+pub(crate) fn size_of(pieces: &Pieces, from: usize, end: usize) -> usize
+    requires order { from ≤ end }
+    requires inside { end ≤ length pieces.now }
+    ensures { result ≡ size_of (between from end pieces.now) }
 {
     let mut n = 0;
-    'pieces: for at in 0..pieces.len() {
+    'pieces: for at in from..end {
         n = with_len(n, pieces, at);
     }
     n

@@ -4,11 +4,11 @@ ghost use Rattle.std.specs.Prelude.{◌≡◌, ◌+◌, ◌<◌, ◌≤◌, ◌&
 ghost use Rattle.std.specs.List.{list_any};
 ghost use Rattle.std.specs.Str.{bytes_eq};
 ghost use Rattle.lg_macro.specs.Arguments.{stripped};
-ghost use Rattle.lg_macro.specs.Defines.{no_group, closed_at, spaced, spliced, first_is_feed, to_close, one_word, names_of, parameters_of, with_body, finished, named_by, written};
+ghost use Rattle.lg_macro.specs.Defines.{no_group, closed_at, spaced, spliced, first_is_feed, is_straight, to_close, one_word, names_of, parameters_of, with_body, finished, named_by, written};
 ghost use Rattle.lg_macro.specs.Pieces.{piece_at, between, is_byte};
 ghost use Rattle.std.specs.Prelude.{◌++◌, ◌∷◌};
 
-use crate::arguments::{gathered, without_ends};
+use crate::arguments::{gathered, solid_range};
 use crate::body::{Body, body_of, size_of};
 use crate::macros::Macro;
 use crate::pieces::{PieceKind, Pieces};
@@ -64,6 +64,32 @@ fn push_spliced(out: &mut Pieces, pieces: &Pieces, at: usize, end: usize) -> Res
     Ok(())
 }
 
+// Returns whether a piece of a directive stays as it is, whatever comes next.
+fn is_straight(kind: PieceKind) -> bool
+    ensures { result ≡ is_straight kind }
+{
+    match kind {
+        PieceKind::Comment | PieceKind::Feed => false,
+        PieceKind::Byte(b) => b != b'\\',
+        _ => true,
+    }
+}
+
+// Returns the place between two to which all pieces stay as they are.
+fn straight_end(pieces: &Pieces, from: usize, end: usize) -> usize
+    requires order { from ≤ end }
+    requires inside { end ≤ length pieces.now }
+    ensures value { between from result pieces.now ++ spliced (between result end pieces.now) ≡ spliced (between from end pieces.now) }
+    ensures order { from ≤ result }
+    ensures inside { result ≤ end }
+{
+    let mut at = from;
+    'straight: while at < end && is_straight(pieces.kind(at)) {
+        at += 1;
+    }
+    at
+}
+
 /// The pieces of a directive between two places: a comment or a spliced line feed is a space, and the backslash of a splice goes.
 pub fn spliced(
     spare: &mut Spare,
@@ -76,7 +102,9 @@ pub fn spliced(
     ensures { IfOk result (λ r. r ≡ spliced (between from end pieces.now)) }
 {
     let mut out = spare.take();
-    'pieces: for at in from..end {
+    let straight = straight_end(pieces, from, end);
+    out.append_between(pieces, from, straight)?;
+    'pieces: for at in straight..end {
         push_spliced(&mut out, pieces, at, end)?;
     }
     Ok(out)
@@ -193,24 +221,29 @@ pub fn stripped_from(spare: &mut Spare, pieces: &Pieces, from: usize) -> Result<
     requires { from ≤ length pieces.now }
     ensures { IfOk result (λ r. r ≡ stripped (drop from pieces.now)) }
 {
-    let mut behind = spare.take();
-    behind.append_between(pieces, from, pieces.len())?;
-    without_ends(spare, behind)
+    let (start, end) = solid_range(pieces, from);
+    let mut solid = spare.take();
+    solid.append_between(pieces, start, end)?;
+    Ok(solid)
 }
 
-// A macro whose body these pieces are.
+// A macro whose body the pieces between two places are.
 fn with_pieces(
     alloc: Global,
     name: &[u8],
     arity: Option<usize>,
     names: &[PlainText],
-    behind: &Pieces,
+    pieces: &Pieces,
+    from: usize,
+    end: usize,
 ) -> Result<Option<Macro>, OutOfMemory>
-    ensures { IfOk result (λ r. r ≡ with_body name.now arity names.now behind.now) }
+    requires order { from ≤ end }
+    requires inside { end ≤ length pieces.now }
+    ensures { IfOk result (λ r. r ≡ with_body name.now arity names.now (between from end pieces.now)) }
 {
     let name = PlainText::of(alloc, name)?;
-    let body = body_of(alloc, names, behind)?;
-    Ok(finished(name, arity, size_of(behind), body))
+    let body = body_of(alloc, names, pieces, from, end)?;
+    Ok(finished(name, arity, size_of(pieces, from, end), body))
 }
 
 // A macro whose body begins at a place.
@@ -225,8 +258,8 @@ fn with_body(
     requires inside { from ≤ length pieces.now }
     ensures { IfOk result (λ r. r ≡ with_body (piece_at pieces.now 0).text arity names.now (stripped (drop from pieces.now))) }
 {
-    let behind = stripped_from(&mut Spare::new(alloc), pieces, from)?;
-    with_pieces(alloc, pieces.text(0), arity, names, &behind)
+    let (start, end) = solid_range(pieces, from);
+    with_pieces(alloc, pieces.text(0), arity, names, pieces, start, end)
 }
 
 // A macro with parentheses.

@@ -1,7 +1,9 @@
 // Pieces of a text, in their order.
 
-ghost use Rattle.std.specs.Prelude.{◌≡◌, ◌≤◌, ◌<◌, [], ◌∷◌, ◌++◌, length, sum_by, OnOk, OnErr, IfOk, false};
+ghost use Rattle.std.specs.Prelude.{◌≡◌, ◌≤◌, ◌<◌, ◌+◌, ◌-◌, ◌^◌, [], ◌∷◌, ◌++◌, length, map, take, drop, sum_by, vec_len, vec_capacity, OnOk, OnErr, IfOk, false};
+ghost use Rattle.std.specs.List.{All};
 ghost use Rattle.lg_macro.specs.Pieces.{is_byte, is_white, piece_at, froze, on_line, between, text_length};
+ghost use Rattle.lg_macro.specs.PieceParts.{AreParts, IsBetween, moved, piece_of};
 
 use lg_base::OutOfMemory;
 use std::alloc::Global;
@@ -42,16 +44,15 @@ pub struct Pieces {
 }
 
 impl Model for Pieces {
-    ghost use Rattle.std.specs.Prelude.{◌≡◌, List, length, map, sum_by};
-    ghost use Rattle.std.specs.List.{All};
+    ghost use Rattle.std.specs.Prelude.{List, length, map};
     ghost use Rattle.lg_macro.specs.Pieces.{Piece};
-    ghost use Rattle.lg_macro.specs.PieceParts.{piece_of, LiesIn, width};
+    ghost use Rattle.lg_macro.specs.PieceParts.{piece_of, AreParts};
 
     ghost Value = { List Piece };
 
     ghost view = { λ p. map (piece_of p.bytes.items) p.parts.items };
 
-    ghost invariant = { λ p. All (LiesIn p.bytes.items) p.parts.items × (sum_by width p.parts.items ≡ length p.bytes.items) };
+    ghost invariant = { λ p. AreParts p.bytes.items (length p.bytes.items) p.parts.items };
 }
 
 impl PieceKind {
@@ -90,6 +91,15 @@ impl Pieces {
             bytes: Vec::new(alloc),
             parts: Vec::new(alloc),
         }
+    }
+
+    /// Returns the pieces whose parts these are, one after another: together they are the text.
+    pub(crate) fn of(alloc: Global, text: &[u8], parts: Vec<Part>) -> Result<Pieces, OutOfMemory>
+        requires { AreParts text.now (length text.now) parts.items }
+        ensures { IfOk result (λ r. r ≡ map (piece_of text.now) parts.items) }
+    {
+        let bytes = Vec::from_slice(alloc, text)?;
+        Ok(Pieces { bytes, parts })
     }
 
     /// Takes all pieces out. The memory stays.
@@ -236,10 +246,7 @@ impl Pieces {
     pub fn append(&mut self, others: &Pieces) -> Result<(), OutOfMemory>
         ensures { OnOk result (self.new ≡ self.old ++ others.now) }
     {
-        for at in 0..others.len() {
-            self.push_same(others, at)?;
-        }
-        Ok(())
+        self.append_between(others, 0, others.len())
     }
 
     /// Adds those of others between two places.
@@ -253,9 +260,56 @@ impl Pieces {
         requires inside { end ≤ length others.now }
         ensures { OnOk result (self.new ≡ self.old ++ between from end others.now) }
     {
-        'pieces: for at in from..end {
-            self.push_same(others, at)?;
+        if from < end {
+            self.append_some(others, from, end)
+        } else {
+            Ok(())
         }
+    }
+
+    // Adds those of others between two places, at least one: their bytes are one after another.
+    fn append_some(&mut self, others: &Pieces, from: usize, end: usize) -> Result<(), OutOfMemory>
+        requires some { from < end }
+        requires inside { end ≤ length others.now }
+        ensures { OnOk result (self.new ≡ self.old ++ between from end others.now) }
+    {
+        let first = others.parts[from].start;
+        let last = others.parts[end - 1].end;
+        let text = text_in(&others.bytes, first, last);
+        let to = self.bytes.as_slice().len();
+        if self.is_long(text) || end - from > MOST_PIECES {
+            return Err(OutOfMemory);
+        }
+        self.parts.reserve(end - from)?;
+        push_text(&mut self.bytes, text)?;
+        push_moved(&mut self.parts, &others.parts[from..end], first, to, last);
         Ok(())
+    }
+}
+
+// Returns the bytes between two places.
+fn text_in(bytes: &[u8], start: usize, end: usize) -> &[u8]
+    requires order { start ≤ end }
+    requires inside { end ≤ length bytes.now }
+    ensures { result.now ≡ take (end - start) (drop start bytes.now) }
+{
+    &bytes[start..end]
+}
+
+// Adds parts whose bytes were at one place, and are at another.
+fn push_moved(parts: &mut Vec<Part>, others: &[Part], from: usize, to: usize, end: usize)
+    requires room { vec_len parts.old + length others.now ≤ vec_capacity parts.old }
+    requires between { All (IsBetween from end) others.now }
+    requires fits { end + to < 2 ^ 64 }
+    ensures { parts.new.items ≡ parts.old.items ++ map (moved from to) others.now }
+{
+    for part in others {
+        parts.push_reserved(Part {
+            kind: part.kind,
+            frozen: part.frozen,
+            line: part.line,
+            start: part.start - from + to,
+            end: part.end - from + to,
+        });
     }
 }

@@ -5,7 +5,7 @@ ghost use Rattle.lg_macro.specs.Pieces.{piece_at, is_feed};
 ghost use Rattle.lg_macro.specs.Text.{is_comment, feeds_of, text_pieces, ends_with_slash, line_len, marks_line, begins_directive, mark_in};
 
 use crate::cutting::front_of;
-use crate::pieces::{PieceKind, Pieces};
+use crate::pieces::{Part, PieceKind, Pieces};
 use lg_base::OutOfMemory;
 use lg_lex::bytes::{ahead, behind};
 use std::alloc::Global;
@@ -32,7 +32,7 @@ pub fn text_pieces(alloc: Global, text: &[u8]) -> Result<Pieces, OutOfMemory>
     requires { length text.now ≤ 16777216 }
     ensures { IfOk result (λ r. r ≡ text_pieces (length text.now) 1 text.now) }
 {
-    let mut out = Pieces::new(alloc);
+    let mut parts: Vec<Part> = Vec::new(alloc);
     let end = text.len();
     let mut at = 0;
     let mut line: u32 = 1;
@@ -40,11 +40,18 @@ pub fn text_pieces(alloc: Global, text: &[u8]) -> Result<Pieces, OutOfMemory>
         let rest = behind(text, at);
         let (kind, n) = front_of(rest);
         let piece = ahead(rest, n);
-        out.push(kind, piece, line, false)?;
+        parts.push(Part {
+            kind,
+            frozen: false,
+            line,
+            start: at,
+            end: at + n,
+        })?;
         line = line_after(line, piece);
         at += n;
     }
-    Ok(out)
+    let pieces = Pieces::of(alloc, text, parts)?;
+    Ok(pieces)
 }
 
 // Returns whether a piece ends with a backslash.

@@ -16,7 +16,7 @@ or_cases : (b c : Bool) → b || c ≡ true → (b ≡ true) ⊎ (c ≡ true)
 or_cases true c h = inl refl
 or_cases false c h = inr h
 
-inside : (lo n a : ℕ) → within lo n a ≡ true → (lo ≤ a) × (a < lo + n)
+pub inside : (lo n a : ℕ) → within lo n a ≡ true → (lo ≤ a) × (a < lo + n)
 inside lo n a h = (grind arith, grind arith)
 
 -- the locals of the frames after the top one lie above its call
@@ -52,7 +52,7 @@ part_begin d g mark f f' fs lo n z h = fun_ext (λ a.
 pub part_enter : (d g mark : ℕ) (f : Frame) (fs : List Frame) → f.locals ≡ 0 → is_part d g mark (f ∷ fs) ≡ is_part d g mark fs
 part_enter d g mark f fs z = fun_ext (λ a. let e : in_locals f a ≡ false = ap (λ k. within (f.sp - 144 - k) k a) z ∙ none_inside (f.sp - 144 - 0) a in rw e)
 
-low_part : (d g mark a : ℕ) → d ≤ 0x1000000 → g ≤ 0x100000 → mark ≤ 0x30400000 → 0x3FF00000 ≤ a → (within 0x20000000 d a ≡ false) × (within 0x28000000 g a ≡ false) × (within 0x30000000 (mark - 0x30000000) a ≡ false)
+pub low_part : (d g mark a : ℕ) → d ≤ 0x1000000 → g ≤ 0x100000 → mark ≤ 0x30400000 → 0x3FF00000 ≤ a → (within 0x20000000 d a ≡ false) × (within 0x28000000 g a ≡ false) × (within 0x30000000 (mark - 0x30000000) a ≡ false)
 low_part d g mark a hd hg hm h = (outside 0x20000000 d a (omega arith), outside 0x28000000 g a (omega arith), outside 0x30000000 (mark - 0x30000000) a (omega arith))
 
 -- the top frame's locals go away
@@ -75,7 +75,7 @@ pub map_push : {A B : Type 0} (f : A → B) (xs : List A) (x : A) → map f (rev
 map_push f xs x = ap (λ l. map f l) (reverse-append xs (x ∷ []))
 
 pub stacked_top : (f g : Frame) (fs : List Frame) → f.sp ≡ g.sp → AreStacked f fs → AreStacked g fs
-stacked_top f g [] e h = sym e ∙ h
+stacked_top f g [] e h = omega (arith, e, h)
 stacked_top f g (k ∷ fs) e h = (omega (arith, h.0, e), h.1, h.2)
 
 -- at the start there are the data part and the argument part alone

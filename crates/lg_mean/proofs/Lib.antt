@@ -1,4 +1,5 @@
 pub mod AddressLemmas
+pub mod EnteringLemmas
 pub mod FitLemmas
 pub mod FollowLemmas
 pub mod FrameLemmas
@@ -7,6 +8,7 @@ pub mod KnownLemmas
 pub mod LandingLemmas
 pub mod ReadLemmas
 pub mod ResolvedLemmas
+pub mod ResultLemmas
 pub mod RunLemmas
 pub mod StepLemmas
 pub mod SuitLemmas

@@ -1,7 +1,9 @@
+pub mod Entering
 pub mod Follows
 pub mod Machines
 pub mod Portables
 pub mod Programs
 pub mod Resolved
+pub mod Results
 pub mod Runs
 pub mod Says

@@ -61,9 +61,9 @@ view_of m = record {
   args_size = m.args_size;
 }
 
--- frames stand one below the other, the top one first; the first one was called with the stack's end
+-- frames are one below the other, the top one first; the first one was called with a stack pointer at or below the stack's end
 abbrev pub AreStacked : Frame → List Frame → Type 0
-AreStacked f [] = f.sp ≡ 0x40000000
+AreStacked f [] = f.sp ≤ 0x40000000
 AreStacked f (g ∷ fs) = (f.sp + g.size ≡ g.sp) × (272 + g.locals ≤ g.size) × AreStacked g fs
 
 -- the top frame has room below its call, and no locals before its `prolog`

@@ -5,6 +5,7 @@ mod access;
 pub mod addresses;
 mod arithmetic;
 mod calls;
+mod entering;
 mod frame;
 mod functions;
 mod host_calls;

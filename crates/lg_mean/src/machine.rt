@@ -4,7 +4,7 @@ ghost use Rattle.std.specs.Prelude.{◌≡◌, ◌<◌, ◌≤◌, ◌-◌, ◌+
 ghost use Rattle.lg_op.specs.Operands.{number_of};
 ghost use Rattle.lg_meaning.specs.States.{value, reg, named, is_open};
 ghost use Rattle.lg_meaning.specs.Steps.{on, on_with_carry, to, with_reg, operand_at, node_of_label, node_in, slot};
-ghost use Rattle.lg_meaning.specs.Fits.{IsHeapMark};
+ghost use Rattle.lg_meaning.specs.Starts.{IsHeapMark};
 ghost use Rattle.lg_mean.specs.Machines.{state_of, regs_of};
 ghost use Rattle.lg_mean.specs.Says.{IsKnown};
 

@@ -1,30 +1,35 @@
 // The portable machine with its text.
 
-ghost use Rattle.std.specs.Prelude.{◌≡◌, ◌<◌, ◌≤◌, ◌-◌, ◌+◌, ◌^◌, ℕ, length, IfSome, IfNone, IfOk, None, []};
+ghost use Rattle.std.specs.Prelude.{◌≡◌, ◌<◌, ◌≤◌, ◌-◌, ◌+◌, ◌^◌, ◌&&◌, ℕ, length, nat_le, false, IsTrue, IfSome, IfNone, IfOk, Some, None, []};
 ghost use Rattle.std.specs.Io.KnownBytes.{Appends};
 ghost use Rattle.lg_base.specs.Arguments.{most_args};
+ghost use Rattle.lg_node.specs.Labels.{place_of, is_entry};
 ghost use Rattle.lg_node.specs.Shapes.{IsShapeOf};
 ghost use Rattle.lg_meaning.specs.Fits.{Fits};
 ghost use Rattle.lg_meaning.specs.Reasons.{why};
-ghost use Rattle.lg_meaning.specs.Starts.{start_state};
+ghost use Rattle.lg_meaning.specs.Starts.{start_state, begins_at, entered_state, entry_after};
 ghost use Rattle.lg_meaning.specs.States.{reg};
 ghost use Rattle.lg_meaning.specs.Steps.{Undefined};
 ghost use Rattle.lg_meaning.specs.Texts.{step, line_at};
 ghost use Rattle.lg_mean.specs.Machines.{state_of};
 ghost use Rattle.lg_mean.specs.Programs.{IsTableOf};
+ghost use Rattle.lg_mean.specs.Results.{word_left};
 ghost use Rattle.lg_mean.specs.Says.{Steps, KeepsCount};
 ghost use Rattle.lg_mean.specs.Portables.{over_of, counts};
+ghost use Rattle.lg_va.specs.Calls.{calling_stack};
 
+use crate::entering::node_in;
 use crate::labels::Labels;
 use crate::machine::Machine;
 use crate::mean_step::MeanStep;
 use crate::program::Program;
 use lg_base::{ArgImage, OutOfMemory};
 use lg_io::Sink;
-use lg_meaning::laws::{starts_fit, steps_keep_the_fit};
+use lg_meaning::laws::{starts_fit, steps_keep_the_fit, texts_may_begin};
 use lg_meaning::reason::Reason;
+use lg_node::labels::is_entry;
 use lg_node::laws::accepted_nodes_are_well_shaped;
-use lg_node::{LabelAddresses, Reg, Shape, Unit};
+use lg_node::{Label, LabelAddresses, Reg, Shape, Unit};
 use std::alloc::Global;
 use std::marker::Model;
 
@@ -69,6 +74,7 @@ impl Portable {
         ensures steps { IfOk result (λ p. p.steps ≡ 0) }
     {
         starts_fit();
+        texts_may_begin();
         let machine = Machine::new(alloc, unit.image.as_slice(), args.as_slice())?;
         let labels = Labels::of(alloc, &unit.nodes, shape, labels)?;
         Ok(Portable {
@@ -77,6 +83,32 @@ impl Portable {
             over: None,
             steps: 0,
         })
+    }
+
+    /// Calls a function from outside: after it the state is that at the start of a run that begins at the `prolog` at which a label is bound, with these words
+    /// as arguments. The data part, the argument part, the heap with its mark and the count of steps stay as the last run left them, whether it was over
+    /// or not. The locals of all its frames are gone, no register is defined, and no answer is repeated. False exactly where there are more than 16 words or
+    /// the label is not bound at a `prolog`, and then nothing changes. The machine was made by `new` for these nodes and this shape. It takes no memory.
+    pub fn enter(&mut self, unit: &Unit, shape: &Shape, label: Label, words: &[u64]) -> bool
+        requires made { IsTableOf unit.now.nodes shape.now self.old.labels }
+        ensures done { result ≡ nat_le (length words.now) 16 && is_entry unit.now.nodes.nodes (place_of unit.now.nodes.places label) }
+        ensures entered { IsTrue result → state_of self.new.machine ≡ entered_state (entry_after (state_of self.old.machine)
+            (calling_stack (length words.now)) words.now) (begins_at unit.now.nodes (Some label)) }
+        ensures fits { IsTrue result → Fits unit.now.nodes shape.now (state_of self.new.machine) }
+        ensures running { IsTrue result → self.new.over ≡ None }
+        ensures steps { self.new.steps ≡ self.old.steps }
+        ensures labels { self.new.labels ≡ self.old.labels }
+        ensures kept { result ≡ false → self.new ≡ self.old }
+    {
+        starts_fit();
+        let place = unit.nodes.place_of(label);
+        if words.len() > 16 || !is_entry(&unit.nodes, place) {
+            return false;
+        }
+        self.machine.restart(node_in(place), words);
+        self.over = None;
+        let _ = self.machine.place();
+        true
     }
 
     /// One step of the node that comes next. The state is one of a run of this text: it was made by `new` for these nodes and this
@@ -192,6 +224,21 @@ impl Portable {
         let node = unit.nodes.node_at(self.machine.place());
         let program = Program::new(&unit.nodes, shape, &self.labels);
         self.machine.why(node, &program)
+    }
+
+    /// Returns the word that the function which was called from outside, or the entry, has returned: where the last step ended the run by a return from the first
+    /// frame, the word of that return, if it has one. `None` after a return without a word and after an exit. Where the run is not over, it is the word with
+    /// which the next step would end it so. The state is one of a run of this text, as for `step`.
+    pub fn result(&self, unit: &Unit, shape: &Shape) -> Option<u64>
+        requires made { IsTableOf unit.now.nodes shape.now self.now.labels }
+        requires fits { Fits unit.now.nodes shape.now (state_of self.now.machine) }
+        ensures { result ≡ word_left (step unit.now.nodes shape.now self.now.labels.addresses (state_of self.now.machine)) }
+    {
+        accepted_nodes_are_well_shaped();
+        unit.nodes.what_holds();
+        let node = unit.nodes.node_at(self.machine.place());
+        let program = Program::new(&unit.nodes, shape, &self.labels);
+        self.machine.word_of_return(node, &program)
     }
 
     /// Returns what a register holds, where it is defined.

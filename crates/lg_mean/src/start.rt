@@ -2,8 +2,7 @@
 
 ghost use Rattle.std.specs.Prelude.{◌≡◌, ◌≤◌, length, IfOk};
 ghost use Rattle.lg_base.specs.Arguments.{argument_count, most_args};
-ghost use Rattle.lg_base.specs.Layout.{stack_end};
-ghost use Rattle.lg_meaning.specs.Starts.{start_state, start_frame};
+ghost use Rattle.lg_meaning.specs.Starts.{start_state, entry_frame};
 ghost use Rattle.lg_mean.specs.Machines.{state_of, frame_in};
 
 use crate::frame::KeptFrame;
@@ -24,15 +23,18 @@ const ARGS: u64 = 0x2800_0000;
 // The end of the stack.
 const STACK_END: u64 = 0x4000_0000;
 
-// Returns the frame of the entry, whose arguments are the number of strings of the argument part and the address of their pointers.
-fn entry_frame(count: u64) -> KeptFrame
-    ensures { frame_in result ≡ start_frame stack_end count }
+// Returns the frame of a function that is called from outside with this stack pointer and these words, at most 16.
+pub(crate) fn entry_frame(sp: u64, words: &[u64]) -> KeptFrame
+    requires { length words.now ≤ 16 }
+    ensures { frame_in result ≡ entry_frame sp words.now }
 {
+    let mut args = [0; 16];
+    args[..words.len()].copy_from_slice(words);
     KeptFrame {
-        sp: STACK_END,
+        sp,
         back: 0,
-        args: [count, ARGS, 0, 0, 0, 0, 0, 0, 0, 0, 0, 0, 0, 0, 0, 0],
-        count: 2,
+        args,
+        count: words.len() as u32,
         saved: [None; 7],
         size: 0,
         locals: 0,
@@ -54,7 +56,7 @@ impl Machine {
             staged: [0; 16],
             count: 0,
             variadic: None,
-            top: entry_frame(argument_count(args)),
+            top: entry_frame(STACK_END, &[argument_count(args), ARGS]),
             below: Vec::with_capacity(alloc, MOST_FRAMES)?,
             memory: CellMemory::new(alloc, image, args)?,
             heap: HeapMark::new(),

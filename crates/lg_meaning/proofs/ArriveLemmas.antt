@@ -12,8 +12,8 @@ use Rattle.lg_node.proofs.FunctionLaws.{home_within}
 use Rattle.lg_node.proofs.WalkLemmas.{begun_on}
 use Rattle.lg_meaning.specs.States.{State, is_open}
 use Rattle.lg_meaning.specs.Steps.{function_here}
-use Rattle.lg_meaning.specs.Starts.{IsEntryStack}
-use Rattle.lg_meaning.specs.Fits.{RunsIn, IsBeforeAll, IsTopOf, AreLinked, IsHeapMark, FitsWell}
+use Rattle.lg_meaning.specs.Starts.{IsEntryStack, IsHeapMark}
+use Rattle.lg_meaning.specs.Fits.{RunsIn, IsBeforeAll, IsTopOf, AreLinked, FitsWell}
 use Rattle.lg_meaning.proofs.FunctionFacts.{IsAt, same_function}
 use Rattle.lg_meaning.proofs.NodeFacts.{AtNode, Running, at_home}
 use Rattle.lg_meaning.proofs.StartLemmas.{frame_small}

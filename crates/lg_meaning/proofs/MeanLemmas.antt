@@ -1,10 +1,11 @@
 -- Runs of the portable meaning are those of a machine, go step by step, and keep the fit.
-use Rattle.std.proofs.Common.{◌≡◌, ◌≢◌, ℕ, zero, suc, List, [], refl, sym, ap, ◌∙◌, subst, append-nil, add-one, arith}
+use Rattle.std.proofs.Common.{◌≡◌, ◌≢◌, ℕ, zero, suc, List, [], Option, refl, sym, ap, ◌∙◌, subst, append-nil, add-one}
 use Rattle.std.specs.List.{All}
 use Rattle.std.proofs.lemmas.List.Elements.{All-get_or}
 use Rattle.std.proofs.lemmas.Option.{slice_get_within, get_or_from_slice_get}
 use Rattle.lg_base.specs.Runs.{Status, Running, Ended, Bad, IsPrefixOf, iter}
 use Rattle.lg_op.specs.Nodes.{InForm}
+use Rattle.lg_op.specs.declared.operand.Label.{Label}
 use Rattle.lg_node.specs.Nodes.{LabelledNodes}
 use Rattle.lg_node.specs.Shapes.{TextShape, IsShapeOf}
 use Rattle.lg_node.specs.ShapeLaws.{IsWellShaped, HasFunctions}
@@ -12,8 +13,8 @@ use Rattle.lg_meaning.specs.States.{State}
 use Rattle.lg_meaning.specs.Steps.{Outcome, Goes, Ends, Undefined}
 use Rattle.lg_meaning.specs.Texts.{step}
 use Rattle.lg_meaning.specs.Fits.{FitsWell}
-use Rattle.lg_meaning.specs.Starts.{IsEntryStack, start_state_at}
-use Rattle.lg_meaning.specs.Means.{Run, behind, going_on, run_step, mean_from, mean}
+use Rattle.lg_meaning.specs.Starts.{Entry, MayEnter, begins_at, MayBegin, entered_state}
+use Rattle.lg_meaning.specs.Means.{Run, behind, going_on, run_step, mean_from}
 use Rattle.lg_meaning.specs.Laws.{IsFormedAt, MeansAreMachines, StepsAreMeans}
 use Rattle.lg_meaning.proofs.KeepLemmas.{steps_fit}
 use Rattle.lg_meaning.proofs.StartLemmas.{start_fits}
@@ -84,8 +85,5 @@ module _ (l : LabelledNodes) (shape : TextShape) (A : List ℕ) (is : IsShapeOf 
   pub formed_at : (i : ℕ) → IsFormedAt l i
   formed_at i n e = subst InForm (get_or_from_slice_get l.nodes i n n e) (All-get_or InForm l.nodes i n (slice_get_within l.nodes i n e) formed)
 
-  pub start_fits_well : (sp : ℕ) → IsEntryStack sp → (image args : List ℕ) → FitsWell l shape (start_state_at sp image args)
-  start_fits_well sp stack image args = record { fits = start_fits l shape is has sp stack image args; heap = record { low = omega arith; high = omega arith } }
-
-  pub mean_fits : (sp : ℕ) → IsEntryStack sp → (image args : List ℕ) (k : ℕ) → FitsWell l shape (mean_from l shape A (start_state_at sp image args) k).state
-  mean_fits sp stack image args k = always l shape A (FitsWell l shape) (λ s t bytes well e. steps_fit l shape A s t bytes is w has (formed_at s.at) well e) (start_state_at sp image args) (start_fits_well sp stack image args) k
+  pub mean_fits : (e : Entry) (b : Option Label) → MayEnter e → MayBegin l b → (k : ℕ) → FitsWell l shape (mean_from l shape A (entered_state e (begins_at l b)) k).state
+  mean_fits e b may begins k = always l shape A (FitsWell l shape) (λ s t bytes well f. steps_fit l shape A s t bytes is w has (formed_at s.at) well f) (entered_state e (begins_at l b)) (start_fits l shape is w has e may b begins) k

@@ -17,10 +17,11 @@ use Rattle.lg_meaning.specs.Means.{mean}
 use Rattle.lg_meaning.specs.Parts.{Grows, HoldsParts}
 use Rattle.lg_meaning.specs.Stacks.{HasSmallParts}
 use Rattle.lg_base.specs.Layout.{stack_end}
-use Rattle.lg_meaning.specs.Starts.{start_state}
+use Rattle.lg_meaning.specs.Starts.{start_state, start_entry}
 use Rattle.lg_meaning.proofs.GrowLemmas.{steps_grow}
 use Rattle.lg_meaning.proofs.KeepLemmas.{steps_fit}
-use Rattle.lg_meaning.proofs.MeanLemmas.{always, formed_at, start_fits_well}
+use Rattle.lg_meaning.proofs.MeanLemmas.{always, formed_at}
+use Rattle.lg_meaning.proofs.StartLemmas.{start_fits, start_may}
 use Rattle.lg_meaning.proofs.StackLemmas.{inside, in_frames}
 
 -- a state that fits and holds the bytes of the two parts
@@ -91,7 +92,7 @@ module _ (l : LabelledNodes) (shape : TextShape) (image args : List ℕ) (short 
 
     starts : Holds l shape image args (start_state image args)
     starts = record {
-      well = start_fits_well l shape A is w has formed stack_end record { whole = refl; room = omega arith; high = omega arith } image args;
+      well = start_fits l shape is w has (start_entry stack_end image args) (start_may stack_end image args record { whole = refl; room = omega arith; high = omega arith }) None tt;
       data_size = refl;
       args_size = refl;
       data_there = λ a i. rw i refl;

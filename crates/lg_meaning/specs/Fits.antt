@@ -1,7 +1,5 @@
 -- When a portable state fits the shape of a text.
 use Rattle.std.specs.Prelude.{◌≡◌, ◌≢◌, ℕ, ◌+◌, ◌<◌, ◌≤◌, Bool, true, false, Option, Some, None, List, [], ◌∷◌, length, slice_get}
-use Rattle.lg_base.specs.Parts.{heap_base}
-use Rattle.lg_host.specs.Host.{heap_end}
 use Rattle.lg_op.specs.declared.op.Op.{Op}
 use Rattle.lg_op.specs.declared.op.Op.TheVariants as op
 use Rattle.lg_op.specs.declared.op.ControlOp.TheVariants as control
@@ -13,7 +11,7 @@ use Rattle.lg_node.specs.Preparations.{pushed, variadic}
 use Rattle.lg_node.specs.Checks.{is_begun}
 use Rattle.lg_node.specs.Shapes.{TextShape}
 use Rattle.lg_meaning.specs.States.{Frame, State, is_open}
-use Rattle.lg_meaning.specs.Starts.{IsEntryStack}
+use Rattle.lg_meaning.specs.Starts.{IsEntryStack, IsHeapMark}
 use Rattle.lg_meaning.specs.Steps.{function_here}
 
 -- the running frame is one of a function: before its `prolog` it has no size yet, and can get that of the function; then it has it
@@ -70,9 +68,9 @@ abbrev pub entry_stack : Frame → List Frame → ℕ
 entry_stack f [] = f.sp
 entry_stack f (g ∷ gs) = entry_stack g gs
 
--- the frames, the last one first; the entry's was called with a stack pointer with which a run may begin, and with two arguments
+-- the frames, the last one first; the entry's was called with a stack pointer with which a run may begin, and with at most 16 arguments
 abbrev pub AreLinked : LabelledNodes → TextShape → Frame → List Frame → Type 0
-AreLinked l shape f [] = IsEntryStack f.sp × (length f.args ≡ 2)
+AreLinked l shape f [] = IsEntryStack f.sp × (length f.args ≤ 16)
 AreLinked l shape f (g ∷ gs) = IsCaller l shape f g × AreLinked l shape g gs
 
 -- a state fits the shape of nodes; no frame begins below 0x3FF00010, since each begins below those of its callers
@@ -84,11 +82,6 @@ pub record Fits (l : LabelledNodes) (shape : TextShape) (s : State) : Type 0 whe
   pub pushed : length s.pushed ≡ pushed l.nodes s.at
   pub variadic : s.variadic ≡ variadic l.nodes s.at
   pub memory : (a b : ℕ) → s.mem a ≡ Some b → is_open s a ≡ true
-
--- the heap mark is in the heap
-pub record IsHeapMark (mark : ℕ) : Type 0 where
-  pub low : heap_base ≤ mark
-  pub high : mark ≤ heap_end
 
 -- a state that fits, and whose heap mark is in the heap; without the latter a host function could write below the heap
 pub record FitsWell (l : LabelledNodes) (shape : TextShape) (s : State) : Type 0 where

@@ -4,6 +4,7 @@ use Rattle.std.specs.List.{All}
 use Rattle.lg_base.specs.Arguments.{most_args}
 use Rattle.lg_base.specs.Runs.{IsMachine, EndsSilently}
 use Rattle.lg_op.specs.declared.node.Node.{Node}
+use Rattle.lg_op.specs.declared.operand.Label.{Label}
 use Rattle.lg_op.specs.Nodes.{InForm}
 use Rattle.lg_node.specs.Nodes.{LabelledNodes}
 use Rattle.lg_node.specs.Functions.{home, is_prolog_at}
@@ -18,13 +19,17 @@ use Rattle.lg_meaning.specs.Reasons.{why}
 use Rattle.lg_meaning.specs.declared.reason.Reason.{Reason}
 use Rattle.lg_meaning.specs.Parts.{Grows, HoldsParts, LiesInOnePart}
 use Rattle.lg_meaning.specs.Stacks.{HasSmallParts, OpensLocalsAlone}
-use Rattle.lg_meaning.specs.Starts.{IsEntryStack, start_state_at}
+use Rattle.lg_meaning.specs.Starts.{IsEntryStack, Entry, MayEnter, begins_at, MayBegin, entered_state, start_entry}
 use Rattle.lg_meaning.specs.Means.{run_at, behind, machine, mean_from, mean}
 
 -- ---- the fit
--- the state at the start fits the shape of each accepted text, with whatever stack pointer the run begins
+-- the state at the start of a run fits the shape of each accepted text, with whatever and wherever the run may begin; and a run of the text may begin
 abbrev pub StartsFit : Type 0
-StartsFit = (l : LabelledNodes) (shape : TextShape) → IsShapeOf l shape → (sp : ℕ) → IsEntryStack sp → (image args : List ℕ) → Fits l shape (start_state_at sp image args)
+StartsFit = (l : LabelledNodes) (shape : TextShape) → IsShapeOf l shape → (e : Entry) (b : Option Label) → MayEnter e → MayBegin l b
+    → FitsWell l shape (entered_state e (begins_at l b))
+
+abbrev pub TextsMayBegin : Type 0
+TextsMayBegin = (sp : ℕ) (image args : List ℕ) → IsEntryStack sp → MayEnter (start_entry sp image args)
 
 -- a node has the operands of its operation
 abbrev pub IsFormedAt : LabelledNodes → ℕ → Type 0
@@ -37,8 +42,8 @@ StepsKeepFit = (l : LabelledNodes) (shape : TextShape) (addresses : List ℕ) (s
 
 -- so each state of the portable meaning of nodes that have the operands of their operations fits
 abbrev pub MeansFit : Type 0
-MeansFit = (l : LabelledNodes) (shape : TextShape) (addresses image args : List ℕ) (sp k : ℕ)
-    → IsShapeOf l shape → All InForm l.nodes → IsEntryStack sp → FitsWell l shape (mean_from l shape addresses (start_state_at sp image args) k).state
+MeansFit = (l : LabelledNodes) (shape : TextShape) (addresses : List ℕ) (e : Entry) (b : Option Label) (k : ℕ)
+    → IsShapeOf l shape → All InForm l.nodes → MayEnter e → MayBegin l b → FitsWell l shape (mean_from l shape addresses (entered_state e (begins_at l b)) k).state
 
 -- where a state fits at a node of a function, the running frame has that function's size and locals after the `prolog`, and neither at it
 abbrev pub FramesAreOfFunctions : Type 0

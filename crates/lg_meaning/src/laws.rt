@@ -2,16 +2,23 @@
 // contracts are the laws.
 
 ghost use Rattle.lg_meaning.specs.Reaching.{StepsReachSuccessors, TakenLabelsAreSuccessors};
-ghost use Rattle.lg_meaning.specs.Laws.{StartsFit, StepsKeepFit, MeansFit, FramesAreOfFunctions, StepsGrow, MeansHoldParts, FitsOpensLocals, AccessesLieInOnePart, MeansAreMachines, StepsAreMeans, StepsAreUndefinedByTheTable, PlainAddressesAre};
+ghost use Rattle.lg_meaning.specs.Laws.{StartsFit, TextsMayBegin, StepsKeepFit, MeansFit, FramesAreOfFunctions, StepsGrow, MeansHoldParts, FitsOpensLocals, AccessesLieInOnePart, MeansAreMachines, StepsAreMeans, StepsAreUndefinedByTheTable, PlainAddressesAre};
 
 use lg_node::laws::{accepted_nodes_are_well_shaped, accepted_nodes_have_functions};
 
-/// The state at the start of a run fits the shape of each accepted text, whatever its data and its arguments are.
+/// The state at the start of a run fits the shape of each accepted text, whatever its data and its arguments are: of a run of the text, and of one that begins
+/// at a function that is called from outside.
 pub fn starts_fit()
     ensures { StartsFit }
 {
+    accepted_nodes_are_well_shaped();
     accepted_nodes_have_functions();
 }
+
+/// A run of a text may begin with its data and its arguments, with any stack pointer that has room for a frame.
+pub fn texts_may_begin()
+    ensures { TextsMayBegin }
+{}
 
 /// A step goes from a state that fits the shape of an accepted text to one that fits it, whatever the addresses of the labels are.
 /// Its node has the operands of its operation, and the heap mark is in the heap, and does so after the step.

@@ -32,6 +32,7 @@ use Rattle.lg_node.specs.ShapeLaws.{has_target, JumpsTo, IsWellShaped}
 use Rattle.lg_node.proofs.AcceptedLaws.{is_closed}
 use Rattle.lg_node.proofs.FunctionLaws.{node_within, home_within, home_from, home_next, home_between, Begins, home_cases}
 use Rattle.lg_node.proofs.WellShaped.{well_shaped}
+use Rattle.lg_meaning.specs.Starts.{MayBegin}
 use Rattle.lg_opt.specs.Remaining.{new_number, moved_place, with_first, retargeted, rewritten, IsRewriting, labelled_from}
 use Rattle.lg_opt.proofs.RemainingLemmas.{number-le, number-lt}
 use Rattle.lg_opt.proofs.MovedLemmas.{same-op, same-size, comes-from, new-count, stands, place-moved}
@@ -82,6 +83,11 @@ module _ (l : LabelledNodes) (stays : ℕ → Bool) (targets : ℕ → Option La
   entry-moved None e = cc
   entry-moved (Some (place.Image k)) e = cc
   entry-moved (Some (place.Node k)) e = prolog-moved k e
+
+  -- where a run may begin at a label, so may one of the new nodes
+  pub begins-moved : (b : Option Label) → MayBegin l b → MayBegin (rewritten l stays targets) b
+  begins-moved None e = tt
+  begins-moved (Some x) e = ap (is_entry m.nodes) (place-moved l stays targets x) ∙ entry-moved (place_of l.places x) e
 
   -- a node after the `prolog` of a function reaches one of that function
   pub inside-moved : (k p : ℕ) → home l.nodes k ≡ Some p → p < k → home (rewritten l stays targets).nodes (new_number stays k) ≡ Some (new_number stays p)

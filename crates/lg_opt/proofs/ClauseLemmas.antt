@@ -14,12 +14,14 @@ use Rattle.lg_node.specs.Nodes.{LabelledNodes, MayStand}
 use Rattle.lg_node.proofs.FunctionLaws.{node_within}
 use Rattle.lg_node.specs.ShapeLaws.{has_target}
 use Rattle.lg_node.specs.Shapes.{TextShape, IsShapeOf}
+use Rattle.lg_meaning.specs.Starts.{begins_at, entered_state}
+use Rattle.lg_meaning.specs.States.{State}
 use Rattle.lg_opt.specs.Goals as goals
 use Rattle.lg_opt.specs.Hops.{HasNoIdleJumps, is_jump, is_jump_at}
 use Rattle.lg_opt.specs.Moves as moves
 use Rattle.lg_opt.specs.Moves.{HasNoIdleMoves, is_movr}
 use Rattle.lg_opt.specs.Remaining.{rewritten, retargeted, no_targets, origins}
-use Rattle.lg_opt.specs.Rewritings.{marked, target_in, IsOrigin, IsFirstFrom, IsSameNode, IsThreadedNode, KeepsOthers, KeepsLabels, CarriesAddresses, RunsAreDropped, RunsAreThreaded, IsDroppedTo, IsThreadedTo}
+use Rattle.lg_opt.specs.Rewritings.{marked, target_in, IsOrigin, IsFirstFrom, IsSameNode, IsThreadedNode, KeepsOthers, KeepsLabels, CarriesAddresses, FromEachStart, RunsAreDropped, RunsAreThreaded, IsDroppedTo, IsThreadedTo}
 use Rattle.lg_opt.proofs.DropLemmas.{idle-there, drops-rewrite, are-dropped}
 use Rattle.lg_opt.proofs.JumpTidyLemmas.{no-idle-jumps}
 use Rattle.lg_opt.proofs.MovedLemmas.{new-count}
@@ -72,7 +74,7 @@ module _ (l : LabelledNodes) (shape : TextShape) (is : IsShapeOf l shape) (forme
 
     pub dropped-runs : RunsAreDropped l shape m new_shape origin
     dropped-runs = subst (λ (x : LabelledNodes). RunsAreDropped l shape x new_shape origin) (sym d.nodes) (subst (RunsAreDropped l shape dm new_shape) (sym d.from)
-        (λ size A sp image args stack are. are-dropped l shape is formed A new_shape (subst (λ (x : LabelledNodes). new_shape.functions ≡ functions x.nodes) d.nodes d.shaped.functions) d.taken size are sp image args stack))
+        (λ size A are. are-dropped l shape is formed A new_shape (subst (λ (x : LabelledNodes). new_shape.functions ≡ functions x.nodes) d.nodes d.shaped.functions) d.taken size are))
 
   module _ (d : IsThreadedTo l shape m new_shape origin) where
     abbrev tm : LabelledNodes
@@ -108,9 +110,17 @@ module _ (l : LabelledNodes) (shape : TextShape) (is : IsShapeOf l shape) (forme
 
     pub threaded-runs : RunsAreThreaded l shape m new_shape
     threaded-runs = subst (λ (x : LabelledNodes). RunsAreThreaded l shape x new_shape) (sym d.nodes)
-        (λ size A sp image args stack are. are-threaded l shape is formed d.targets d.are new_shape (subst (λ (x : LabelledNodes). new_shape.functions ≡ functions x.nodes) d.nodes d.shaped.functions) d.taken A size are sp image args stack)
+        (λ size A are. are-threaded l shape is formed d.targets d.are new_shape (subst (λ (x : LabelledNodes). new_shape.functions ≡ functions x.nodes) d.nodes d.shaped.functions) d.taken A size are)
 
--- two rewritings, one after the other
+-- two rewritings, one after the other, from each start
+pub starts-join : (l m n : LabelledNodes) (First Second Both : State → State → Type 0) → ((s t u : State) → First s t → Second t u → Both s u)
+    → FromEachStart l m First → FromEachStart m n Second → FromEachStart l n Both
+starts-join l m n First Second Both join f g e b may begins =
+    let x = f e b may begins in
+    let y = g e b may x.0 in
+    (y.0, join (entered_state e (begins_at l b)) (entered_state e (begins_at m b)) (entered_state e (begins_at n b)) x.1 y.1)
+
+-- and of their nodes
 abbrev pub Joined : (Node → Node → Type 0) → (Node → Node → Type 0) → Node → Node → Type 0
 Joined First Second old n = (middle : Node) × First old middle × Second middle n
 

@@ -10,12 +10,15 @@ use Rattle.lg_op.specs.declared.op.Op.{Op}
 use Rattle.lg_op.specs.declared.op.Op.TheVariants as op
 use Rattle.lg_op.specs.declared.op.ControlOp.TheVariants as control
 use Rattle.lg_op.specs.declared.op.UnaryOp.TheVariants as unary
+use Rattle.lg_op.specs.declared.operand.Label.{Label}
 use Rattle.lg_op.specs.declared.operand.Operand.TheVariants as operand
 use Rattle.lg_op.specs.declared.operand.Reg.TheVariants.{Fp}
 use Rattle.lg_op.specs.declared.carry.Carry.TheVariants as carry
 use Rattle.lg_node.specs.Functions.{functions}
-use Rattle.lg_node.specs.Labels.{is_labelled}
+use Rattle.lg_node.specs.Labels.{place_of, is_entry, is_labelled}
 use Rattle.lg_node.specs.Nodes.{LabelledNodes}
+use Rattle.lg_node.specs.declared.place.Place.{Place}
+use Rattle.lg_node.specs.declared.place.Place.TheVariants as place
 use Rattle.lg_node.specs.Shapes.{TextShape, IsShapeOf}
 use Rattle.lg_node.proofs.FunctionLaws.{node_within}
 use Rattle.lg_node.proofs.SuccessorLaws.{has_functions}
@@ -23,13 +26,13 @@ use Rattle.lg_node.proofs.WellShaped.{well_shaped}
 use Rattle.lg_meaning.specs.Addresses.{AreAddresses}
 use Rattle.lg_meaning.specs.Fits.{is_call, FitsWell, AreLinked}
 use Rattle.lg_meaning.specs.Means.{mean_from}
-use Rattle.lg_meaning.specs.Starts.{IsEntryStack, start_frame, start_state_at}
-use Rattle.lg_base.specs.Arguments.{argument_count}
+use Rattle.lg_meaning.specs.Starts.{Entry, MayEnter, begins_at, MayBegin, entry_frame, entered_state}
 use Rattle.lg_meaning.specs.States.{Frame, State}
-use Rattle.lg_meaning.specs.Steps.{Goes, Text, node_step}
+use Rattle.lg_meaning.specs.Steps.{Goes, Text, node_step, node_in}
 use Rattle.lg_meaning.specs.Texts.{text, step_at, step}
 use Rattle.lg_meaning.proofs.KeepLemmas.{steps_fit}
-use Rattle.lg_meaning.proofs.MeanLemmas.{always, formed_at, start_fits_well}
+use Rattle.lg_meaning.proofs.MeanLemmas.{always, formed_at}
+use Rattle.lg_meaning.proofs.StartLemmas.{start_fits}
 use Rattle.lg_meaning.proofs.Outcomes.{on_result}
 use Rattle.lg_carry.specs.Carries.{leaps, leaps_at}
 use Rattle.lg_carry.proofs.FallLemmas.{nodes-fall}
@@ -38,9 +41,11 @@ use Rattle.lg_opt.specs.Moves.{Move, move_of, move_at, no_sources, is_idle, afte
 use Rattle.lg_opt.specs.Paired.{Pair, Dropped, RestsAt, AreStepped}
 use Rattle.lg_opt.specs.Remaining.{new_number, rewritten, no_targets, origins, may_go, IsRewriting}
 use Rattle.lg_opt.specs.Renumbered.{over, Meets, IsRewritten}
-use Rattle.lg_opt.specs.Rewritings.{RunIsDropped}
+use Rattle.lg_opt.specs.Rewritings.{FromEachStart, RunIsDropped}
 use Rattle.lg_opt.proofs.RemainingLemmas.{number-zero, number-goes}
-use Rattle.lg_opt.proofs.MovedLemmas.{stands, label-moved}
+use Rattle.lg_opt.proofs.AcceptLemmas.{begins-moved}
+use Rattle.lg_opt.proofs.LabelLemmas.{labelled-at}
+use Rattle.lg_opt.proofs.MovedLemmas.{stands, label-moved, beginning-moved}
 use Rattle.lg_opt.proofs.RenumberLemmas.{renumbers}
 use Rattle.lg_opt.proofs.ArrivalLemmas.{Arrives, leap-arrives}
 use Rattle.lg_opt.proofs.MoveLemmas.{AreSources, idle-rests}
@@ -64,8 +69,8 @@ call-leaps (op.Control control.Finish last) e = refl
 call-leaps o e = cc
 
 -- the start, over other numbers
-pub start-over : (nu : ℕ → ℕ) → nu 0 ≡ 0 → (sp : ℕ) (image args : List ℕ) → start_state_at sp image args ≡ over nu (start_state_at sp image args) 0 carry.Undefined None
-start-over nu e sp image args = ap (λ b. record (start_state_at sp image args) { frame = record (start_frame sp (argument_count args)) { back = b } }) (sym e)
+pub start-over : (nu : ℕ → ℕ) → nu 0 ≡ 0 → (e : Entry) (i k : ℕ) → entered_state e k ≡ over nu (entered_state e i) k carry.Undefined None
+start-over nu h e i k = ap (λ b. record (entered_state e k) { frame = record (entry_frame e.sp e.args) { back = b } }) (sym h)
 
 module _ (l : LabelledNodes) where
   -- a move that does nothing
@@ -166,12 +171,22 @@ module _ (l : LabelledNodes) where
                 subst (AreSources t) (sym (ap (sources_before l) at ∙ next-sources s.at n.0 n.1 h f))
                 (sources-on (text l shape A) n.0 s t bytes (sources_before l s.at) good.1 h went (λ k e. not-fp n.0 k (formed-at s.at n.0 n.1) e))
 
-    all-good : (sp : ℕ) (image args : List ℕ) → IsEntryStack sp → (k : ℕ) → Good (mean_from l shape A (start_state_at sp image args) k).state
+    -- nothing is known of registers at the first node, and at a label
+    fresh-start : (b : Option Label) → MayBegin l b → sources_before l (begins_at l b) ≡ no_sources
     unfolding sources_before
-    all-good sp image args stack k = always l shape A Good
+    fresh-start None h = refl
+    fresh-start (Some x) h = at-place (place_of l.places x) refl h
+      where
+        at-place : (o : Option Place) → place_of l.places x ≡ o → is_entry l.nodes o ≡ true → sources_before l (node_in o) ≡ no_sources
+        at-place None e f = cc
+        at-place (Some (place.Image k)) e f = cc
+        at-place (Some (place.Node k)) e f = fresh-at k (labelled-at l.places x k e)
+
+    all-good : (e : Entry) (b : Option Label) → MayEnter e → MayBegin l b → (k : ℕ) → Good (mean_from l shape A (entered_state e (begins_at l b)) k).state
+    all-good e b may begins k = always l shape A Good
         (λ s t bytes good g. (steps_fit l shape A s t bytes is (well_shaped l is.accepted) (has_functions l is.accepted) (formed-at s.at) good.0 g, sources-step s t bytes good g))
-        (start_state_at sp image args)
-        (start_fits_well l shape A is (well_shaped l is.accepted) (has_functions l is.accepted) formed sp stack image args, λ x y e. cc)
+        (entered_state e (begins_at l b))
+        (start_fits l shape is (well_shaped l is.accepted) (has_functions l is.accepted) e may b begins, at-fresh (entered_state e (begins_at l b)) (fresh-start b begins))
         k
 
     module _ (new_shape : TextShape) (en : new_shape.functions ≡ functions (rewritten l (stays l) no_targets).nodes) (et : new_shape.taken ≡ shape.taken) (size : ℕ) (are : AreAddresses (rewritten l (stays l) no_targets) size A) where
@@ -231,25 +246,30 @@ module _ (l : LabelledNodes) where
           by (Some n) false f s h = let no : false ≡ true = sym (drops-calm i s) ∙ ap leaps_at f ∙ h in cc
 
       -- the run of the new nodes follows
-      pub are-dropped : (sp : ℕ) (image args : List ℕ) → IsEntryStack sp → RunIsDropped l shape (rewritten l (stays l) no_targets) new_shape (origins (stays l) (length l.nodes)) A sp image args
-      are-dropped sp image args stack =
-          let start : Dropped nu (start_state_at sp image args) (start_state_at sp image args) = record {
-            at = 0;
+      pub are-dropped : FromEachStart l (rewritten l (stays l) no_targets) (RunIsDropped l shape (rewritten l (stays l) no_targets) new_shape (origins (stays l) (length l.nodes)) A)
+      are-dropped e b may begins =
+          let first : State = entered_state e (begins_at l b) in
+          let second : State = entered_state e (begins_at m b) in
+          let start : Dropped nu first second = record {
+            at = begins_at m b;
             bit = carry.Undefined;
             result = None;
-            is = start-over nu (number-zero (stays l)) sp image args;
-            lands = sym (number-zero (stays l));
+            is = start-over nu (number-zero (stays l)) e (begins_at l b) (begins_at m b);
+            lands = beginning-moved l (stays l) no_targets b;
             carries = inl refl;
             answers = inl refl;
           } in (
-            record {
-              j = _;
-              stays = stays l;
-              to = nu;
-              drops = drops p (stays l) nu Good (Dropped nu) (λ s k a. ap (λ (x : State). x.at) a.is ∙ a.lands) stepped drops-calm (start_state_at sp image args) (start_state_at sp image args) (all-good sp image args stack) start;
-              memory = drops-look p (stays l) nu Good (Dropped nu) (λ s k a. ap (λ (x : State). x.at) a.is ∙ a.lands) stepped drops-calm (start_state_at sp image args) (start_state_at sp image args) (all-good sp image args stack) start
-                  (λ s k a. ap memory_in a.is);
-              leaps = leaps-stay;
-            },
-            numbered l (stays l) no_targets,
+            begins-moved l (stays l) no_targets drops-rewrite is.accepted b begins,
+            (
+              record {
+                j = _;
+                stays = stays l;
+                to = nu;
+                drops = drops p (stays l) nu Good (Dropped nu) (λ s k a. ap (λ (x : State). x.at) a.is ∙ a.lands) stepped drops-calm first second (all-good e b may begins) start;
+                memory = drops-look p (stays l) nu Good (Dropped nu) (λ s k a. ap (λ (x : State). x.at) a.is ∙ a.lands) stepped drops-calm first second (all-good e b may begins) start
+                    (λ s k a. ap memory_in a.is);
+                leaps = leaps-stay;
+              },
+              numbered l (stays l) no_targets,
+            ),
           )

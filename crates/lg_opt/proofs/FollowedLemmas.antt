@@ -6,7 +6,6 @@ use Rattle.lg_node.specs.Nodes.{LabelledNodes}
 use Rattle.lg_node.specs.Shapes.{TextShape}
 use Rattle.lg_carry.specs.Carries.{leaps_at}
 use Rattle.lg_meaning.specs.Means.{ending_in, Run, behind, run_at, run_step, machine}
-use Rattle.lg_meaning.specs.Starts.{start_state_at}
 use Rattle.lg_meaning.specs.Texts.{step}
 use Rattle.lg_meaning.proofs.MeanLemmas.{means_are_machines}
 use Rattle.lg_opt.specs.Drops.{JumpsQuietly}
@@ -38,7 +37,7 @@ keeps-memory l shape addresses r e = by r.status refl
     by Bad f = ap memory_of (stays-bad (step l shape addresses) r f)
 
 pub law : DroppedAndThreadedAreFollowed
-law l m n shape middle_shape new_shape A sp image args d t =
+law l m n shape middle_shape new_shape A s0 t0 u0 d t =
     followed (machine l shape A) (machine m middle_shape A) (machine n new_shape A) at at (means_are_machines l shape A).0 (is_loud n) memory_of memory_of memory_of
-    (run_at (start_state_at sp image args) []) (run_at (start_state_at sp image args) []) (run_at (start_state_at sp image args) []) d.j t.j d.stays (jump_at m) (λ i. leaps_at (slice_get m.nodes i)) d.to
+    (run_at s0 []) (run_at t0 []) (run_at u0 []) d.j t.j d.stays (jump_at m) (λ i. leaps_at (slice_get m.nodes i)) d.to
     d.drops t.threads (quiet m middle_shape A) (keeps-memory m middle_shape A) d.memory t.memory

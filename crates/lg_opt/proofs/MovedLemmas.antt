@@ -9,6 +9,7 @@ use Rattle.lg_op.specs.declared.op.Op.TheVariants as op
 use Rattle.lg_op.specs.declared.op.ControlOp.TheVariants as control
 use Rattle.lg_op.specs.declared.op.LastOperand.TheVariants as last_operand
 use Rattle.lg_op.specs.declared.operand.Label.{Label}
+use Rattle.lg_meaning.specs.Starts.{begins_at}
 use Rattle.lg_op.specs.declared.operand.Operand.{Operand}
 use Rattle.lg_op.specs.declared.operand.Operand.TheVariants as operand
 use Rattle.lg_node.specs.declared.place.Place.{Place}
@@ -119,3 +120,8 @@ module _ (l : LabelledNodes) (stays : ℕ → Bool) (targets : ℕ → Option La
   label-moved (operand.Number y) = sym (number-zero stays)
   label-moved (operand.Host y) = sym (number-zero stays)
   label-moved (operand.Slot y) = sym (number-zero stays)
+
+  -- a run begins at the same label
+  pub beginning-moved : (b : Option Label) → begins_at (rewritten l stays targets) b ≡ new_number stays (begins_at l b)
+  beginning-moved None = sym (number-zero stays)
+  beginning-moved (Some x) = label-moved (operand.Label x)

@@ -13,7 +13,9 @@ use Rattle.lg_node.specs.Shapes.{TextShape, IsShapeOf}
 use Rattle.lg_node.proofs.SuccessorLaws.{has_functions}
 use Rattle.lg_node.proofs.WellShaped.{well_shaped}
 use Rattle.lg_meaning.specs.Addresses.{AreAddresses}
-use Rattle.lg_meaning.specs.Starts.{IsEntryStack, start_state_at}
+use Rattle.lg_meaning.specs.Means.{mean_from}
+use Rattle.lg_meaning.specs.Starts.{begins_at, entered_state}
+use Rattle.lg_meaning.specs.States.{State}
 use Rattle.lg_meaning.specs.Steps.{operand_at, Text}
 use Rattle.lg_meaning.specs.Texts.{text}
 use Rattle.lg_meaning.proofs.MeanLemmas.{mean_fits}
@@ -22,11 +24,13 @@ use Rattle.lg_opt.specs.Hops.{jump_at, hop, is_jump_at}
 use Rattle.lg_opt.specs.Paired.{Pair}
 use Rattle.lg_opt.specs.Remaining.{new_number, retargeted, rewritten}
 use Rattle.lg_opt.specs.Renumbered.{Alike}
+use Rattle.lg_opt.specs.Rewritings.{FromEachStart}
 use Rattle.lg_opt.specs.Runs.{AreThreaded}
 use Rattle.lg_opt.specs.Targets.{target_node, end_of, AreTargets}
 use Rattle.lg_opt.specs.Threads.{Threaded, Lands, StandsFor, IsThreadedBy}
 use Rattle.lg_opt.proofs.RemainingLemmas.{number-zero}
-use Rattle.lg_opt.proofs.MovedLemmas.{same-op, same-second, same-third, stands, label-moved}
+use Rattle.lg_opt.proofs.AcceptLemmas.{begins-moved}
+use Rattle.lg_opt.proofs.MovedLemmas.{same-op, same-second, same-third, stands, label-moved, beginning-moved}
 use Rattle.lg_opt.proofs.RenumberLemmas.{renumbers}
 use Rattle.lg_opt.proofs.GoalLemmas.{lead-on, ends-on, lead-there, turns-on, dropped-number, one-less}
 use Rattle.lg_opt.proofs.TargetLemmas.{jump-there, jump-targets, jumps-within, lead-rests, goal-is, others-stay, threads-rewrite, same-node, target-moved}
@@ -126,21 +130,21 @@ module _ (l : LabelledNodes) (shape : TextShape) (is : IsShapeOf l shape) (forme
       less i e f = one-less l (length l.nodes) i (λ z. let lt = inside i e in omega arith) e f
 
   -- the run of the new nodes follows that of the old ones, and turns with it
-  pub are-threaded : (sp : ℕ) (image args : List ℕ) → IsEntryStack sp → AreThreaded l shape (rewritten l (stays l) targets) new_shape A sp image args
-  are-threaded sp image args stack =
-      let start : Alike nu (Lands l h) (start_state_at sp image args) (start_state_at sp image args) = record {
-        at = 0;
+  pub are-threaded : FromEachStart l (rewritten l (stays l) targets) (AreThreaded l shape (rewritten l (stays l) targets) new_shape A)
+  are-threaded e b may begins =
+      let first : State = entered_state e (begins_at l b) in
+      let second : State = entered_state e (begins_at m b) in
+      let inside-it : (k : ℕ) → (mean_from l shape A first k).state.at < length l.nodes =
+      λ k. (mean_fits l shape A is (well_shaped l is.accepted) (has_functions l is.accepted) formed e b may begins k).fits.inside in
+      let start : Alike nu (Lands l h) first second = record {
+        at = begins_at m b;
         bit = carry.Undefined;
         result = None;
-        is = start-over nu (number-zero (stays l)) sp image args;
-        lands = inl (sym (number-zero (stays l)));
+        is = start-over nu (number-zero (stays l)) e (begins_at l b) (begins_at m b);
+        lands = inl (beginning-moved l (stays l) targets b);
         carries = inl refl;
         answers = inl refl;
-      } in
-      record {
-        j = _;
-        threads = threads p h by-threads (start_state_at sp image args) (start_state_at sp image args)
-            (λ k. (mean_fits l shape A is (well_shaped l is.accepted) (has_functions l is.accepted) formed sp stack image args k).fits.inside) start;
-        memory = threads-look p h by-threads (start_state_at sp image args) (start_state_at sp image args)
-            (λ k. (mean_fits l shape A is (well_shaped l is.accepted) (has_functions l is.accepted) formed sp stack image args k).fits.inside) start;
-      }
+      } in (
+        begins-moved l (stays l) targets (threads-rewrite l is.accepted formed targets are) is.accepted b begins,
+        record { j = _; threads = threads p h by-threads first second inside-it start; memory = threads-look p h by-threads first second inside-it start },
+      )

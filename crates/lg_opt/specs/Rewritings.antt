@@ -16,7 +16,8 @@ use Rattle.lg_opt.specs.Moves as moves
 use Rattle.lg_opt.specs.Remaining.{retargeted, rewritten, no_targets, origins}
 use Rattle.lg_opt.specs.Targets.{AreTargets}
 use Rattle.lg_opt.specs.Runs.{AreDropped, AreThreaded}
-use Rattle.lg_meaning.specs.Starts.{IsEntryStack}
+use Rattle.lg_meaning.specs.Starts.{Entry, MayEnter, begins_at, MayBegin, entered_state}
+use Rattle.lg_meaning.specs.States.{State}
 
 -- each new node corresponds to the old one of a number, and the numbers rise
 pub record IsOrigin (Stands : Node → Node → Type 0) (l m : LabelledNodes) (origin : List ℕ) : Type 0 where
@@ -69,22 +70,27 @@ abbrev pub CarriesAddresses : LabelledNodes → LabelledNodes → Type 0
 CarriesAddresses l m = (size : ℕ) (addresses : List ℕ) → AreAddresses m size addresses → AreAddresses l size addresses
 
 -- the new run follows the old one: it steps where the old one is at a node for which a new one stands
-abbrev pub RunIsDropped : LabelledNodes → TextShape → LabelledNodes → TextShape → List ℕ → List ℕ → ℕ → List ℕ → List ℕ → Type 0
-RunIsDropped l shape m new_shape origin addresses sp image args =
-    (run : AreDropped l shape m new_shape addresses sp image args) × IsNumberedBy origin (length l.nodes) run.stays run.to
+abbrev pub RunIsDropped : LabelledNodes → TextShape → LabelledNodes → TextShape → List ℕ → List ℕ → State → State → Type 0
+RunIsDropped l shape m new_shape origin addresses s t =
+    (run : AreDropped l shape m new_shape addresses s t) × IsNumberedBy origin (length l.nodes) run.stays run.to
+
+-- from each start: where a run may begin at a label of the old nodes, so may one at that label of the new nodes, and the two states there have this to each other
+abbrev pub FromEachStart : LabelledNodes → LabelledNodes → (State → State → Type 0) → Type 0
+FromEachStart l m Holds =
+    (e : Entry) (b : Option Label) → MayEnter e → MayBegin l b → MayBegin m b × Holds (entered_state e (begins_at l b)) (entered_state e (begins_at m b))
 
 -- over addresses of the labels in the new nodes the new run follows the old one, from each start
 abbrev pub RunsAreDropped : LabelledNodes → TextShape → LabelledNodes → TextShape → List ℕ → Type 0
 RunsAreDropped l shape m new_shape origin =
-    (size : ℕ) (addresses : List ℕ) (sp : ℕ) (image args : List ℕ) → IsEntryStack sp → AreAddresses m size addresses → RunIsDropped l shape m new_shape origin addresses sp image args
+    (size : ℕ) (addresses : List ℕ) → AreAddresses m size addresses → FromEachStart l m (RunIsDropped l shape m new_shape origin addresses)
 
 abbrev pub RunsAreThreaded : LabelledNodes → TextShape → LabelledNodes → TextShape → Type 0
 RunsAreThreaded l shape m new_shape =
-    (size : ℕ) (addresses : List ℕ) (sp : ℕ) (image args : List ℕ) → IsEntryStack sp → AreAddresses m size addresses → AreThreaded l shape m new_shape addresses sp image args
+    (size : ℕ) (addresses : List ℕ) → AreAddresses m size addresses → FromEachStart l m (AreThreaded l shape m new_shape addresses)
 
 abbrev pub RunsAreFollowed : LabelledNodes → TextShape → LabelledNodes → TextShape → Type 0
 RunsAreFollowed l shape m new_shape =
-    (size : ℕ) (addresses : List ℕ) (sp : ℕ) (image args : List ℕ) → IsEntryStack sp → AreAddresses m size addresses → MeaningIsFollowed l shape m new_shape addresses sp image args
+    (size : ℕ) (addresses : List ℕ) → AreAddresses m size addresses → FromEachStart l m (MeaningIsFollowed l shape m new_shape addresses)
 
 -- no needless move, no jump to a jump and none to what follows
 pub record IsTidy (l : LabelledNodes) : Type 0 where

@@ -1,11 +1,11 @@
 -- Pieces that name no macro, hidden names, and names without parameters.
-use Rattle.std.proofs.Common.{◌≡◌, ℕ, suc, Bool, true, false, List, [], ◌∷◌, ◌++◌, length, map, drop, slice_get, Some, None, Ok, Err, refl, sym, ap, ◌∙◌, arith}
+use Rattle.std.proofs.Common.{◌≡◌, ℕ, suc, ◌-◌, ◌<◌, Bool, true, false, List, [], ◌∷◌, ◌++◌, length, map, drop, slice_get, Some, None, Ok, Err, refl, sym, ap, ◌∙◌, arith}
 use Rattle.std.specs.Prelude.{◌&&◌, if◌then◌else◌, Result}
 use Rattle.std.specs.List.{AllByRecursion}
 use Rattle.std.proofs.lemmas.List.{append-nil}
 use Rattle.lg_base.specs.Refusals.{◌>>=◌}
 use Rattle.lg_base.specs.declared.refusal.Refusal.{Refusal}
-use Rattle.lg_replacement.specs.Expansion.{Given, Expander, Outcome, kept, named, after_name, put, put_name, object, at_macro, at_name, step, walk, expand_in}
+use Rattle.lg_replacement.specs.Expansion.{Given, Expander, Outcome, kept, named, after_name, put, put_name, object, each, at_macro, at_name, step, walk, expand_in}
 use Rattle.lg_macro.specs.Macros.{counted, place_in}
 use Rattle.lg_macro.specs.Pieces.{Piece, froze, on_line, is_word}
 use Rattle.lg_macro.specs.Substitution.{filled, substituted}
@@ -42,6 +42,22 @@ walk-none table inner hidden (p ∷ rest) given h =
 pub others-stay : OthersStay
 unfolding expand_in
 others-stay table n line hidden pieces given h = walk-none table (expand_in table n) hidden pieces given h
+
+-- arguments that name nothing are expanded as they are
+pub each-none : (table : List Macro) (n line : ℕ) (hidden : List ℕ) (raw done : List (List Piece)) (sum : ℕ) → AllByRecursion (NameNothing table) raw
+    → each (expand_in table (suc n)) line hidden raw done sum ≡ Ok (done ++ raw, sum)
+unfolding each
+each-none table n line hidden [] done sum h = ap (λ l. Ok (l, sum)) (sym (append-nil done))
+each-none table n line hidden (a ∷ raw) done sum h =
+    ap (λ (o : Outcome). o >>= (λ given. each (expand_in table (suc n)) line hidden raw (done ++ given.0 ∷ []) given.1)) (others-stay table n line hidden a ([], sum) h.0)
+    ∙ each-none table n line hidden raw (done ++ a ∷ []) sum h.1
+    ∙ ap (λ l. Ok (l, sum)) (append-again done (a ∷ []) raw)
+
+pub each-plain : (table : List Macro) (levels line : ℕ) (hidden : List ℕ) (raw : List (List Piece)) (sum : ℕ) → 0 < levels → AllByRecursion (NameNothing table) raw
+    → each (expand_in table levels) line hidden raw [] sum ≡ Ok (raw, sum)
+each-plain table levels line hidden raw sum some h =
+    let e : levels ≡ suc (levels - 1) = omega (arith, some) in
+    rw e (each-none table (levels - 1) line hidden raw [] sum h)
 
 -- ---- hidden names
 frozen-none : (later : List Macro) (p : Piece) → named later (froze p) ≡ None

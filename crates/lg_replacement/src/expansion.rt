@@ -9,6 +9,9 @@ ghost use Rattle.lg_macro.specs.Substitution.{substituted};
 ghost use Rattle.lg_macro.specs.Pieces.{froze};
 ghost use Rattle.lg_macro.specs.Arguments.{arguments_of, closing, opening};
 ghost use Rattle.lg_replacement.specs.Expansion.{EachAs, replaced, at_macro};
+ghost use Rattle.lg_replacement.specs.Replacements.{NameNothing};
+ghost use Rattle.std.specs.List.{AllByRecursion};
+ghost use Rattle.std.specs.Prelude.{true};
 
 use lg_base::{RefusalKind, Stop};
 use lg_macro::arguments::{arguments, closing, opening, push_feeds};
@@ -239,6 +242,30 @@ fn called(
     }
 }
 
+// Returns whether pieces name no macro.
+fn names_nothing(table: &Table, pieces: &Pieces) -> bool
+    ensures { result ≡ true → NameNothing table.now pieces.now }
+{
+    'pieces: for at in 0..pieces.len() {
+        if named(table, pieces, at).is_some() {
+            return false;
+        }
+    }
+    true
+}
+
+// Returns whether arguments name no macro: then they are expanded as they are.
+fn name_nothing(table: &Table, raw: &[Pieces]) -> bool
+    ensures { result ≡ true → AllByRecursion (NameNothing table.now) raw.now }
+{
+    'raw: for i in 0..raw.len() {
+        if !names_nothing(table, &raw[i]) {
+            return false;
+        }
+    }
+    true
+}
+
 // A call with its arguments.
 #[tactic(auto, unfolding(crate::specs::Expansion::replaced))]
 #[cycle(expand)]
@@ -258,6 +285,9 @@ fn with_arguments(
     ensures hidden { OnOk result (work.new.hidden.items ≡ work.old.hidden.items) }
 {
     count(work, entry, line)?;
+    if levels > 0 && name_nothing(table, raw) {
+        return put(table, work, place, entry, line, raw, raw, levels, out);
+    }
     let room = work.room;
     let behind = room.saturating_sub(out.size());
     work.room = behind;

@@ -1,11 +1,12 @@
 // The calling conventions.
 
 ghost use Rattle.std.specs.Prelude.{◌≡◌, ◌<◌};
-ghost use Rattle.lg_base.specs.Conventions.{argument_registers, result_register, is_kept};
+ghost use Rattle.lg_base.specs.Conventions.{result_register, is_kept};
 ghost use Rattle.lg_temp.specs.Abis.{place_of, register_of};
 
 use lg_base::Target;
 use lg_op::Reg;
+use lg_va::argument_registers;
 
 /// Where an argument of a call lies.
 #[derive(Clone, Copy, PartialEq, Eq)]
@@ -22,17 +23,6 @@ pub enum ArgPlace {
 pub struct Abi {
     /// The target.
     pub target: Target,
-}
-
-/// Returns the registers of the first arguments by their numbers on the target, in order: 6 on x86-64, 8 on the others. Further arguments lie in stack words.
-pub fn argument_registers(target: Target) -> &'static [u8]
-    ensures { result.now ≡ argument_registers target }
-{
-    match target {
-        Target::X86_64 => &[7, 6, 2, 1, 8, 9],
-        Target::Aarch64 => &[0, 1, 2, 3, 4, 5, 6, 7],
-        Target::Riscv64 => &[10, 11, 12, 13, 14, 15, 16, 17],
-    }
 }
 
 impl Abi {

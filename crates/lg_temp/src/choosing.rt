@@ -5,11 +5,12 @@ ghost use Rattle.lg_base.specs.Conventions.{argument_registers};
 ghost use Rattle.lg_live.specs.RegSets.{has};
 ghost use Rattle.lg_temp.specs.Chosen.{order, stands_in, staged_in, is_named, taken_by, is_chosen, spills, around, choices_of};
 
-use crate::abi::{Abi, argument_registers};
+use crate::abi::Abi;
 use crate::choice::{Choice, Choices, Need, Needs, Staged};
 use lg_base::Target;
 use lg_live::{RegSet, reads, writes};
 use lg_op::{Node, Reg};
+use lg_va::argument_registers;
 
 // Returns the order in which registers are tried.
 fn order(target: Target) -> &'static [u8]

@@ -26,16 +26,16 @@ const STATES: u64 = 32;
 // The registers of a calling convention: the stack pointer, those that a call sets besides (the return address and two arguments), the result, and those that
 // the callee saves.
 #[derive(Clone, Copy)]
-struct Convention {
-    stack: u8,
+pub(crate) struct Convention {
+    pub(crate) stack: u8,
     set: &'static [u8],
-    result: u8,
+    pub(crate) result: u8,
     saved: &'static [u8],
     popped: u64,
 }
 
-// Returns the convention of a target, by its word.
-fn convention_of(word: &str) -> Convention
+/// Returns the convention of a target, by its word.
+pub(crate) fn convention_of(word: &str) -> Convention
     ensures stack { result.stack < 32 }
     ensures result { result.result < 32 }
 {
@@ -81,8 +81,8 @@ fn held(cpu: &Cpu, register: u8) -> u64 {
     }
 }
 
-// Puts a word into each register that the call does not set.
-fn fill(cpu: &mut Cpu, convention: Convention, state: u64) {
+/// Puts a word into each register that the call does not set.
+pub(crate) fn fill(cpu: &mut Cpu, convention: Convention, state: u64) {
     for register in 0..32u8 {
         if register != convention.stack && !convention.set.contains(&register) {
             cpu.set_register(register, word(state, register));
@@ -90,9 +90,9 @@ fn fill(cpu: &mut Cpu, convention: Convention, state: u64) {
     }
 }
 
-// How a call ended.
+/// How a call ended.
 #[derive(Clone, Copy, PartialEq)]
-enum End {
+pub(crate) enum End {
     Returned(u64),
     Exited,
     Otherwise,
@@ -106,8 +106,8 @@ fn are_kept(cpu: &Cpu, convention: Convention, state: u64) -> bool {
         .all(|register| held(cpu, *register) == word(state, *register))
 }
 
-// How the call ended of a processor that has ended, which had this stack pointer.
-fn end_of(cpu: &Cpu, convention: Convention, stack: u64, state: u64) -> End
+/// How the call ended of a processor that has ended, which had this stack pointer.
+pub(crate) fn end_of(cpu: &Cpu, convention: Convention, stack: u64, state: u64) -> End
     requires stack { convention.stack < 32 }
     requires result { convention.result < 32 }
 {
@@ -126,8 +126,8 @@ fn end_of(cpu: &Cpu, convention: Convention, stack: u64, state: u64) -> End
     }
 }
 
-// Takes the steps of a call until it has ended.
-fn has_ended(cpu: &mut Cpu, out: &mut MemorySink) -> bool {
+/// Takes the steps of a call until it has ended.
+pub(crate) fn has_ended(cpu: &mut Cpu, out: &mut MemorySink) -> bool {
     for _ in 0..MOST_STEPS {
         if cpu.steps() == u64::MAX {
             return false;
@@ -197,12 +197,13 @@ fn ends_so(
     Ok(true)
 }
 
-// Returns whether a call ended as a word says: with `exit`, with a return that has no result (`none`), or with this number as its result.
-fn is_end(end: End, wanted: &str) -> bool {
+/// Returns whether a call ended as a word says: with `exit`, with a return that has no result (`none`), with this number as its result, or
+/// otherwise (`otherwise`), as where its meaning is undefined.
+pub(crate) fn is_end(end: End, wanted: &str) -> bool {
     match end {
         End::Exited => wanted == "exit",
         End::Returned(value) => wanted == "none" || str::parse::<u64>(wanted) == Ok(value),
-        End::Otherwise => false,
+        End::Otherwise => wanted == "otherwise",
     }
 }
 

@@ -4,6 +4,7 @@
 ghost use Rattle.std.specs.Prelude.{◌<◌, ◌≤◌, length, IfOk, IsTrue};
 ghost use Rattle.lg_base.specs.Arguments.{most_args};
 ghost use Rattle.lg_base.specs.Layout.{most_code};
+ghost use Rattle.lg_tst.specs.Answers.{IsWhole};
 
 use crate::call::{code_on_text, words_of};
 use lg_asm::Code;
@@ -36,7 +37,9 @@ const WORDS: u64 = 64;
 pub(crate) const ROOM: usize = 1_048_576;
 
 /// Returns the unit of a text of at most 16,777,216 bytes.
-pub(crate) fn unit_of(alloc: Global, text: &[u8]) -> Result<Unit, Stop> {
+pub(crate) fn unit_of(alloc: Global, text: &[u8]) -> Result<Unit, Stop>
+    ensures { IfOk result IsWhole }
+{
     if text.len() > MOST_TEXT {
         return Err(Stop::OutOfMemory);
     }

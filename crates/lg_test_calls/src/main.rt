@@ -1,6 +1,7 @@
 // The outcomes of calls of the program, by the files of `data`: `cases` has texts with what they write and how they end, or whose code is to do what they
 // mean; `properties` asks of some of them, on each target of `targets.txt`, that their profile adds up, that their listing is read back, and that their code
-// runs on a stack that is disturbed between any two instructions; `called` calls code by the targets' calling conventions; `any_text` takes any bytes for a
+// runs on a stack that is disturbed between any two instructions; `called` calls code by the targets' calling conventions; `entered` calls functions from
+// outside, one after the other, and `random_functions` random ones, whose meaning is called too; `any_text` takes any bytes for a
 // text, and `changed_listings` any for a listing; `edges` has what is in no table. Prints what each part found. The status is 0 exactly where all calls of
 // the cases are right.
 #![tactic(auto)]
@@ -16,11 +17,13 @@ mod cases;
 mod changed_listings;
 mod disturbed;
 mod edges;
+mod entered;
 mod form;
 mod listings;
 mod outcome;
 mod profiles;
 mod properties;
+mod random_functions;
 mod tally;
 mod texts;
 
@@ -29,9 +32,11 @@ use called::call_texts;
 use cases::make_cases;
 use changed_listings::change_listings;
 use edges::{try_beginnings, try_edges};
+use entered::enter_texts;
 use form::try_forms;
 use listings::list_labels;
 use properties::try_texts;
+use random_functions::call_random_functions;
 use std::process::ExitCode;
 use std::{fs, io};
 
@@ -46,6 +51,8 @@ fn exit_code(all: bool) -> ExitCode
 fn try_others(rt: &HostRuntime, targets: &str) -> io::Result<()> {
     try_texts(rt, targets)?;
     call_texts(rt, targets)?;
+    enter_texts(rt, targets)?;
+    call_random_functions(rt, targets)?;
     try_edges(rt)?;
     try_beginnings(rt)?;
     list_labels(rt, targets)?;

@@ -1,11 +1,10 @@
 -- Code that goes straight on is crossed; and so are saves, code that is crossed, and restores.
-use Rattle.std.proofs.Common.{◌≡◌, ◌≢◌, ℕ, zero, suc, ◌+◌, ◌-◌, ◌^◌, ◌<◌, ◌≤◌, ◌⊎◌, inl, inr, Bool, true, false, List, [], ◌∷◌, ◌++◌, Option, refl, sym, ap, ◌∙◌, subst, arith, ⊎_elim, length, length-append, append-nil, append_assoc, drop}
+use Rattle.std.proofs.Common.{◌≡◌, ◌≢◌, ℕ, zero, suc, ◌+◌, ◌-◌, ◌^◌, ◌<◌, ◌≤◌, ◌⊎◌, inl, inr, Bool, true, false, List, [], ◌∷◌, ◌++◌, refl, sym, ap, ◌∙◌, subst, arith, ⊎_elim, length, length-append, append-nil, append_assoc, drop}
 use Rattle.std.specs.Prelude.{◌==◌, ◌&&◌, not, is_some, if◌then◌else◌}
 use Rattle.std.specs.List.{All}
 use Rattle.std.proofs.lemmas.Bool.{cases_eq, cases_lt}
 use Rattle.lg_base.specs.Conventions.{frame_register, stack_register}
 use Rattle.lg_base.specs.Layout.{spill_word, code_base, most_code}
-use Rattle.lg_base.specs.Runs.{Running, iter}
 use Rattle.lg_base.specs.Spaces.{stored}
 use Rattle.lg_base.proofs.SpaceLemmas.{stored-out, loaded-stored}
 use Rattle.lg_temp.specs.declared.choice.Choice.{Choice}

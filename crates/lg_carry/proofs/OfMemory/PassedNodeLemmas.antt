@@ -3,79 +3,56 @@ use Rattle.lg_carry.proofs.TurnLemmas.{still-inside, still-moves, still-turns}
 use Rattle.std.specs.List.{All}
 use Rattle.lg_carry.proofs.BelowLemmas.{not-below}
 use Rattle.std.proofs.Common.{◌≡◌, ◌≢◌, ℕ, ◌+◌, ◌-◌, ◌%◌, ◌<◌, ◌≤◌, ◌⊎◌, ⊎_elim, inl, inr, Bool, true, false, List, [], ◌∷◌, ◌++◌, Option, Some, None, refl, sym, ap, ◌∙◌, subst, arith, length, drop, length-append, append-nil, zero-add}
-use Rattle.std.specs.Prelude.{◌||◌, ◌&&◌, not, slice_get, slice_index, slice_index_or, if◌then◌else◌}
-use Rattle.std.proofs.lemmas.List.{length-drop}
+use Rattle.std.specs.Prelude.{◌||◌, ◌&&◌, not, slice_get, slice_index, if◌then◌else◌}
 use Rattle.std.proofs.lemmas.Option.{slice_get_within}
 use Rattle.std.proofs.lemmas.Bool.{false_from_ne_true, cases_Bool, or_parts, or_cases}
 use Rattle.lg_base.specs.Conventions.{argument_registers, portable_register, frame_register, stack_register, carry_register}
 use Rattle.lg_base.specs.Layout.{code_base, most_code, frame_pointer, stack_end}
-use Rattle.lg_base.specs.Parts.{stack_base, heap_base}
+use Rattle.lg_base.specs.Parts.{stack_base}
 use Rattle.lg_base.specs.Runs.{Running}
 use Rattle.lg_base.specs.declared.target.Target.{Target}
 use Rattle.lg_cells.specs.Cells.{within}
-use Rattle.lg_op.specs.declared.carry.Carry.{Carry}
-use Rattle.lg_op.specs.declared.carry.Carry.TheVariants as carry
-use Rattle.lg_op.specs.declared.op.Op.{Op}
-use Rattle.lg_op.specs.declared.op.Op.TheVariants as op
-use Rattle.lg_op.specs.declared.op.ControlOp.TheVariants as control
-use Rattle.lg_op.specs.declared.op.PlainOp.TheVariants as plain
 use Rattle.lg_op.specs.declared.operand.Reg.{Reg}
 use Rattle.lg_op.specs.declared.operand.Reg.TheVariants.{Fp}
 use Rattle.lg_op.specs.declared.node.Node.{Node}
-use Rattle.lg_node.specs.Functions.{home, is_epilog, is_epilog_at, frame_of}
-use Rattle.lg_node.specs.declared.function.Function.{Function}
+use Rattle.lg_node.specs.Functions.{home, is_epilog_at}
 use Rattle.lg_node.specs.Preparations.{pushed}
 use Rattle.lg_live.specs.Uses.{is_read, is_written}
 use Rattle.lg_op.specs.Operands.{number_of}
 use Rattle.lg_meaning.specs.States.{Frame, State, in_locals, in_any_locals, is_open}
-use Rattle.lg_meaning.specs.Steps.{Goes, Undefined, function_here}
+use Rattle.lg_meaning.specs.Steps.{Goes, Undefined}
 use Rattle.lg_meaning.specs.Texts.{step}
-use Rattle.lg_meaning.specs.Laws.{IsFormedAt}
-use Rattle.lg_meaning.specs.Fits.{Fits, IsTopOf}
-use Rattle.lg_meaning.proofs.KeepLemmas.{steps_fit}
-use Rattle.lg_temp.specs.declared.choice.Need.{Need}
 use Rattle.lg_temp.specs.declared.choice.Choice.{Choice}
 use Rattle.lg_temp.specs.declared.choice.Choice.TheVariants.{Free, Own, Spill}
 use Rattle.lg_temp.specs.Abis.{register_of}
-use Rattle.lg_temp.specs.Choices.{AreFor}
-use Rattle.lg_temp.specs.Chosen.{Around, around, stands_in, staged_in, is_busy}
 use Rattle.lg_base.specs.declared.flags.Flags.{Flags}
 use Rattle.lg_base.specs.Flags.{carry_of}
 use Rattle.lg_carry.specs.AgreeInFrame.{StaysInFrame}
 use Rattle.lg_carry.specs.FinalNodes.{Code, is_inside, function_at}
 use Rattle.lg_carry.specs.Places.{AreStacked}
-use Rattle.lg_carry.specs.Processors.{Seen, is_below, stack_of}
-use Rattle.lg_carry.specs.Registers.{HoldsCarry, CarryIs}
+use Rattle.lg_carry.specs.Processors.{is_below, stack_of}
+use Rattle.lg_carry.specs.Registers.{HoldsCarry}
 use Rattle.lg_carry.specs.Rows.{Rows}
 use Rattle.lg_carry.specs.Stands.{lowest, StatesAgree, Stands}
 use Rattle.lg_carry.specs.Carries.{leaps, Leads}
-use Rattle.lg_carry.specs.NodeBlocks.{IsNodeBlock}
-use Rattle.lg_carry.specs.NodeCode.{numbered, live_before, live_behind, is_return, CarriesNode}
-use Rattle.lg_carry.specs.Blocks.{spellings, StaysOutside, done, RunsBlock}
-use Rattle.lg_carry.specs.Spills.{IsFramePointer, in_slots, in_first_slots, Leaves, Does, wrapped, spilled, AreInOrder, lost}
-use Rattle.lg_carry.specs.TemporariesApart.{IsSpare}
+use Rattle.lg_carry.specs.NodeCode.{numbered, live_before, live_behind, CarriesNode}
+use Rattle.lg_carry.specs.Blocks.{spellings, StaysOutside}
+use Rattle.lg_carry.specs.Spills.{IsFramePointer, in_slots, in_first_slots, wrapped, spilled, lost}
 use Rattle.lg_carry.specs.Frames.{at_call}
 use Rattle.lg_carry.proofs.AgreeInFrameLemmas.{settled, quiet-agrees}
 use Rattle.lg_carry.proofs.RegistersApartLemmas.{conventions-apart}
-use Rattle.lg_carry.proofs.BlockLemmas.{blocks-run}
-use Rattle.lg_carry.proofs.NodeBlockLemmas.{node-blocks-lead}
 use Rattle.lg_carry.proofs.TextShapeLemmas.{inner, shaped}
-use Rattle.lg_carry.proofs.SpillLemmas.{saves-restore}
-use Rattle.lg_carry.proofs.SpillChoiceLemmas.{choices-in-order}
 use Rattle.lg_carry.proofs.StackLemmas.{stacked-running, stacked-high, slot-where, open-where, locals-off, within-where, locals-above}
-use Rattle.lg_carry.proofs.TemporariesApartLemmas.{none-stood-for, none-staged, tried-spare}
 use Rattle.lg_carry.specs.Nodes.Isas.{IsIsa}
 use Rattle.lg_carry.specs.TextNodes.{IsInText, IsFrameOf, IsAfterProlog, stands_inside}
-use Rattle.lg_carry.specs.Nodes.Stretches.{HasFrame}
-use Rattle.lg_node.specs.Labels.{is_inner}
-use Rattle.lg_carry.specs.Nodes.Straight.{is_taken, spoils, HoldsRead, IsKept, from_to, StepsTo, ComputesNode, NeedWell, ComputingNodesCarry, PlainNodesCarry}
+use Rattle.lg_carry.specs.Nodes.Straight.{is_taken, spoils, HoldsRead, IsKept, from_to}
 use Rattle.lg_carry.proofs.PlaceLemmas.{nodes-stand-inside}
 use Rattle.lg_carry.proofs.OfNodes.HomesLemmas.{function-same}
 use Rattle.lg_carry.proofs.OfNodes.RegisterLemmas.{stands-for, number-few, numbered-at, given}
-use Rattle.lg_carry.proofs.OfNodes.TemporaryLemmas.{IsTemporary, IsOffered, temporary, keep-taken, unspoilt, lost-taken}
-use Rattle.lg_carry.specs.Nodes.Stretches.{StandsAt, behind, PassesIn}
-use Rattle.lg_carry.proofs.OfNodes.StraightLemmas.{text-keeps, no-return, no-epilog, in-room, frame-held, carry-moved, AreHarmless, harmless, none-harmless}
-use Rattle.lg_carry.specs.Carries.{leaps_at, BeginsInside, KeepsOutside}
+use Rattle.lg_carry.proofs.OfNodes.TemporaryLemmas.{keep-taken, unspoilt, lost-taken}
+use Rattle.lg_carry.specs.Nodes.Stretches.{behind}
+use Rattle.lg_carry.proofs.OfNodes.StraightLemmas.{text-keeps, no-return, no-epilog, in-room, frame-held, carry-moved, AreHarmless}
+use Rattle.lg_carry.specs.Carries.{leaps_at, KeepsOutside}
 use Rattle.lg_carry.specs.Passages.{IsNodeCode, Passes}
 use Rattle.lg_carry.proofs.PassageLemmas.{passages-lead}
 use Rattle.lg_base.specs.Runs.{iter}

@@ -35,7 +35,6 @@ use Rattle.lg_meaning.specs.Fits.{Fits, IsTopOf}
 use Rattle.lg_meaning.proofs.KeepLemmas.{steps_fit}
 use Rattle.lg_temp.specs.declared.choice.Need.{Need}
 use Rattle.lg_temp.specs.declared.choice.Choice.{Choice}
-use Rattle.lg_temp.specs.declared.choice.Choice.TheVariants.{Free, Own, Spill}
 use Rattle.lg_temp.specs.Abis.{register_of}
 use Rattle.lg_temp.specs.Choices.{AreFor}
 use Rattle.lg_temp.specs.Chosen.{Around, around, stands_in, staged_in, is_busy}

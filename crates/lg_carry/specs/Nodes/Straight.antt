@@ -20,7 +20,6 @@ use Rattle.lg_temp.specs.Chosen.{around, is_named}
 use Rattle.lg_temp.specs.Choices.{AreFor}
 use Rattle.lg_base.specs.declared.flags.Flags.{Flags}
 use Rattle.lg_base.specs.Flags.{carry_of}
-use Rattle.lg_carry.specs.Blocks.{spellings}
 use Rattle.lg_carry.specs.FinalNodes.{Code}
 use Rattle.lg_carry.specs.NodeBlocks.{IsNodeBlock}
 use Rattle.lg_carry.specs.Processors.{Seen, is_below, stack_of}

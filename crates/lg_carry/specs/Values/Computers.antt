@@ -17,7 +17,7 @@ use Rattle.lg_base.specs.Flags.{carry_of}
 use Rattle.lg_carry.specs.FinalNodes.{Code}
 use Rattle.lg_carry.specs.Registers.{HoldsCarry, HoldsResult}
 use Rattle.lg_carry.specs.Rows.{Rows}
-use Rattle.lg_carry.specs.Blocks.{spellings, IsAbove}
+use Rattle.lg_carry.specs.Blocks.{IsAbove}
 use Rattle.lg_carry.specs.Nodes.Straight.{IsKept, GoesOn, HoldsWritten, ComputesNode}
 
 -- what instructions compute with

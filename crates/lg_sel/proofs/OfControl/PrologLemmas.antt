@@ -1,6 +1,6 @@
 -- A `prolog` is carried by code that makes the frame.
 use Rattle.std.proofs.Common.{◌≡◌, ℕ, ◌+◌, ◌%◌, ◌<◌, ◌≤◌, inr, Bool, false, List, [], ◌∷◌, Option, Some, None, refl, sym, ap, ◌∙◌, subst, arith, append-nil, true}
-use Rattle.std.specs.Prelude.{◌==◌, slice_get, if◌then◌else◌}
+use Rattle.std.specs.Prelude.{slice_get, if◌then◌else◌}
 use Rattle.lg_carry.proofs.TurnLemmas.{sinking-turns}
 use Rattle.lg_base.specs.Conventions.{portable_register, frame_register}
 use Rattle.lg_base.specs.Layout.{frame_pointer, saved_word, least_frame, stack_end}
@@ -55,9 +55,6 @@ keeps-caller target m w f size locals (g ∷ gs) live pointer saved h = record {
   pointer = subst (HasWord m (frame_pointer f.sp)) h.pointer pointer;
   saved = λ v x lt l e. subst (HasWord m (saved_word (frame_pointer f.sp) v)) (h.saved v x lt l e) (saved g gs refl v lt l);
 }
-
-same-number : (x y : ℕ) → x ≡ y → (x == y) ≡ true
-same-number x y e = grind (arith, e)
 
 -- ---- the node
 module _ {Q I : Type 0} (R : Rows Q I) (fits : I → Type 0) (saved : ℕ) (code : ℕ → ℕ → List I) (lead : PrologsLead R fits saved code) (c : Code) (i line homes : ℕ) (f : Function)
@@ -151,8 +148,8 @@ module _ {Q I : Type 0} (R : Rows Q I) (fits : I → Type 0) (saved : ℕ) (code
   keeps-outer : s.callers ≡ [] → IsBeforeEntry target c s.at (R.processor.seen q).registers
       → IsAfterEntry target c (s.at + 1) s.frame [] (R.processor.seen u).bytes
   keeps-outer none b =
-      let begun : f.entry ≡ c.entry = begins-here ∙ sym (entry-here c.nodes i n t.here refl) ∙ ap (entry_at c.nodes) (sym at) ∙ b.enters in
-      let is-entry : is_entry c (function_at c i) ≡ true = ap (is_entry c) function ∙ same-number f.entry c.entry begun in
+      let begun : f.entry ≡ entry_at c.nodes s.at = begins-here ∙ sym (entry-here c.nodes i n t.here refl) ∙ ap (entry_at c.nodes) (sym at) in
+      let is-entry : is_entry c (function_at c i) ≡ true = ap (is_entry c) function ∙ ap c.outward begun ∙ b.enters in
       let all : c.first ≡ saved = sym (ap (λ x. if x then c.first else c.saved) is-entry) ∙ is-saved in
       let high : sp ≡ outer_stack target c = ap (entry_stack s.frame) (sym none) ∙ st.state.entry in
       record {

@@ -1,4 +1,4 @@
-use Rattle.std.proofs.Common.{◌≡◌, ◌≤◌, ◌-◌, length}
+use Rattle.std.proofs.Common.{◌≤◌, ◌-◌, length}
 use Rattle.lg_cpu.specs.Decodings.{AreEmpty}
 use Rattle.lg_cpu.proofs.decode_cache.empty_entries.Given as goal
 

@@ -1,6 +1,6 @@
 use Rattle.std.proofs.Common.{◌≡◌, ◌≤◌, false, length, sym, subst, ◌∙◌}
 use Rattle.lg_node.specs.Shapes.{IsShapeOf}
-use Rattle.lg_opt.specs.Rewritings.{IsOrigin, KeepsOthers, KeepsLabels, CarriesAddresses, RunIsDropped, RunsAreDropped}
+use Rattle.lg_opt.specs.Rewritings.{IsOrigin, KeepsOthers, KeepsLabels, CarriesAddresses, FromEachStart, RunIsDropped, RunsAreDropped}
 use Rattle.lg_opt.proofs.ClauseLemmas.{ok-weaker}
 use Rattle.lg_dead.specs.Known.{HasNoFolds}
 use Rattle.lg_dead.specs.Folds.{IsFoldedNode, IsFoldedTo}
@@ -27,6 +27,6 @@ returns c =
       folds = ok-weaker (λ r. IsFoldedList l s r.nodes r.shape r.origin.items) (λ r. HasNoFolds r.nodes) r (λ x d. no-folds l x.nodes formed d.nodes) is;
       addresses = ok-weaker (λ r. IsFoldedList l s r.nodes r.shape r.origin.items) (λ r. CarriesAddresses l r.nodes) r (λ x d. fold-addresses l x.nodes d.nodes c.requires.accepted) is;
       runs = ok-weaker (λ r. IsFoldedList l s r.nodes r.shape r.origin.items) (λ r. RunsAreDropped l s r.nodes r.shape r.origin.items) r
-          (λ x d. λ size A sp image args stack are. subst (λ o. RunIsDropped l s x.nodes x.shape o A sp image args) (sym d.from) (folded-follow l x.nodes s x.shape A c.requires formed d.nodes (d.shaped.functions ∙ functions-same l x.nodes c.requires.accepted d.nodes ∙ sym c.requires.functions) d.taken sp image args stack)) is;
+          (λ x d. λ size A are. subst (λ o. FromEachStart l x.nodes (RunIsDropped l s x.nodes x.shape o A)) (sym d.from) (folded-follow l x.nodes s x.shape A c.requires formed d.nodes (d.shaped.functions ∙ functions-same l x.nodes c.requires.accepted d.nodes ∙ sym c.requires.functions) d.taken)) is;
       made = ok-weaker (λ r. IsFoldedList l s r.nodes r.shape r.origin.items) (λ r. IsFoldedTo l r.nodes) r (λ x d. d.nodes) is;
     }

@@ -2,7 +2,9 @@ use Rattle.std.proofs.Common.{refl, sym, ◌∙◌, subst}
 use Rattle.lg_node.specs.Nodes.{LabelledNodes}
 use Rattle.lg_opt.specs.Hops.{is_jump}
 use Rattle.lg_opt.specs.Rewritings.{IsOrigin, IsThreadedNode, KeepsOthers, KeepsLabels}
-use Rattle.lg_opt.proofs.ClauseLemmas.{joined-within, origins-join, others-join, labels-join}
+use Rattle.lg_opt.proofs.ClauseLemmas.{starts-join, joined-within, origins-join, others-join, labels-join}
+use Rattle.lg_opt.specs.Rewritten.{MeaningIsFollowed}
+use Rattle.lg_opt.specs.Runs.{AreDropped, AreThreaded}
 use Rattle.lg_opt.proofs.FollowedLemmas.{law}
 use Rattle.lg_dead.specs.Folds.{IsFoldedNode, ComesFolded}
 use Rattle.lg_dead.specs.Known.{HasNoFolds}
@@ -44,5 +46,6 @@ returns-in-Ok c =
         made = subst (ComesThreaded l t.nodes t.shape) (sym c.in-Ok.ensures) (record { middle = m.nodes; middle_shape = m.shape; first = m.origin.items; second = t.origin.items; moved = first.made; threaded = second.made; joined = refl });
       };
       addresses = λ size A are. first.addresses size A (second.addresses size A are);
-      runs = λ size A sp image args stack are. law l m.nodes t.nodes s m.shape t.shape A sp image args (first.runs size A sp image args stack (second.addresses size A are)) (second.runs size A sp image args stack are);
+      runs = λ size A are. starts-join l m.nodes t.nodes (AreDropped l s m.nodes m.shape A) (AreThreaded m.nodes m.shape t.nodes t.shape A) (MeaningIsFollowed l s t.nodes t.shape A)
+          (law l m.nodes t.nodes s m.shape t.shape A) (first.runs size A (second.addresses size A are)) (second.runs size A are);
     }

@@ -1,7 +1,8 @@
 use Rattle.std.proofs.Common.{◌≡◌, ◌≤◌, length, arith, ◌∙◌}
 use Rattle.lg_live.specs.Definitions.{defines}
-use Rattle.lg_opt.specs.Rewritings.{IsOrigin, IsSameNode, KeepsOthers, KeepsLabels, CarriesAddresses, RunsAreDropped}
-use Rattle.lg_opt.proofs.ClauseLemmas.{ok-weaker}
+use Rattle.lg_opt.specs.Rewritings.{IsOrigin, IsSameNode, KeepsOthers, KeepsLabels, CarriesAddresses, RunIsDropped, RunsAreDropped}
+use Rattle.lg_opt.specs.Runs.{AreDropped}
+use Rattle.lg_opt.proofs.ClauseLemmas.{ok-weaker, starts-join}
 use Rattle.lg_opt.proofs.TwiceLemmas.{twice}
 use Rattle.lg_dead.specs.Folds.{IsFoldedNode, ComesFolded}
 use Rattle.lg_dead.specs.Known.{HasNoFolds}
@@ -31,6 +32,7 @@ returns c =
       of_use = e.of_use;
       addresses = ok-weaker (λ r. CarriesAddresses f.nodes r.nodes) (λ r. CarriesAddresses l r.nodes) r (λ x h. λ size A are. first.addresses size A (h size A are)) e.addresses;
       runs = ok-two (λ r. CarriesAddresses f.nodes r.nodes) (λ r. RunsAreDropped f.nodes f.shape r.nodes r.shape r.origin.items) (λ r. RunsRest l s r.nodes r.shape) r
-          (λ x h d. λ size A sp image args stack are. twice l f.nodes x.nodes s f.shape x.shape A sp image args (first.runs size A sp image args stack (h size A are)).0 (d size A sp image args stack are).0) e.addresses e.runs;
+          (λ x h d. λ size A are. starts-join l f.nodes x.nodes (RunIsDropped l s f.nodes f.shape f.origin.items A) (RunIsDropped f.nodes f.shape x.nodes x.shape x.origin.items A)
+          (AreDropped l s x.nodes x.shape A) (λ a b c y z. twice l f.nodes x.nodes s f.shape x.shape A a b c y.0 z.0) (first.runs size A (h size A are)) (d size A are)) e.addresses e.runs;
       made = ok-weaker (λ r. IsDroppedTo f.nodes f.shape r.nodes r.shape r.origin.items) (λ r. ComesNeeded l r.nodes r.shape r.origin.items) r (λ x d. record { middle = f.nodes; middle_shape = f.shape; shaped = first.shape; folded = to; dropped = d }) e.made;
     }

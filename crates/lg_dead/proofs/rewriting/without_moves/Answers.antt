@@ -2,8 +2,9 @@ use Rattle.std.proofs.Common.{arith, map, refl, sym, ◌∙◌, subst}
 use Rattle.std.specs.Prelude.{slice_index}
 use Rattle.lg_node.specs.Nodes.{LabelledNodes}
 use Rattle.lg_opt.specs.Moves.{is_movr}
-use Rattle.lg_opt.specs.Rewritings.{IsOrigin, IsSameNode, KeepsOthers, KeepsLabels}
-use Rattle.lg_opt.proofs.ClauseLemmas.{Joined, joined-within, origins-join, others-join, labels-join}
+use Rattle.lg_opt.specs.Rewritings.{IsOrigin, IsSameNode, KeepsOthers, KeepsLabels, RunIsDropped}
+use Rattle.lg_opt.specs.Runs.{AreDropped}
+use Rattle.lg_opt.proofs.ClauseLemmas.{starts-join, Joined, joined-within, origins-join, others-join, labels-join}
 use Rattle.lg_opt.proofs.TwiceLemmas.{twice}
 use Rattle.lg_dead.specs.Folds.{IsFoldedNode, ComesFolded}
 use Rattle.lg_dead.specs.Known.{HasNoFolds}
@@ -45,6 +46,7 @@ returns-in-Ok c =
       folds = subst HasNoFolds (sym second.made.nodes) (moves-keep n.nodes first.shape.accepted formed first.folds);
       dead = subst (λ (x : LabelledNodes). HasNoDeadButMoves x t.shape) (sym second.made.nodes) (no-dead-but-moves n.nodes n.shape t.shape first.shape formed second.made.taken first.of_use);
       addresses = λ size A are. first.addresses size A (second.addresses size A are);
-      runs = λ size A sp image args stack are. twice l n.nodes t.nodes s n.shape t.shape A sp image args (first.runs size A sp image args stack (second.addresses size A are)) (second.runs size A sp image args stack are).0;
+      runs = λ size A are. starts-join l n.nodes t.nodes (AreDropped l s n.nodes n.shape A) (RunIsDropped n.nodes n.shape t.nodes t.shape t.origin.items A) (AreDropped l s t.nodes t.shape A)
+          (λ a b c y z. twice l n.nodes t.nodes s n.shape t.shape A a b c y z.0) (first.runs size A (second.addresses size A are)) (second.runs size A are);
       made = subst (ComesMoved l t.nodes t.shape) (sym c.in-Ok.ensures) (record { middle = n.nodes; middle_shape = n.shape; first = n.origin.items; second = t.origin.items; needed = first.made; dropped = second.made; joined = refl });
     }

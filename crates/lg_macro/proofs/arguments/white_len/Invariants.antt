@@ -4,7 +4,7 @@ use Rattle.lg_macro.specs.Pieces.{is_white}
 use Rattle.lg_macro.proofs.arguments.white_len.Given as goal
 
 abbrev pub invariant-white : goal.invariant-white
-invariant-white l = (l.n ≤ l.end) × (l.n + prefix_len (λ p. is_white p.kind) (drop l.n (take l.end l.pieces)) ≡ prefix_len (λ p. is_white p.kind) (take l.end l.pieces))
+invariant-white l = (l.n ≤ l.end) × (l.n + prefix_len (λ p. is_white p.kind) (drop l.n (take l.end (drop l.from l.pieces))) ≡ prefix_len (λ p. is_white p.kind) (take l.end (drop l.from l.pieces)))
 
 abbrev pub decreases-white : goal.decreases-white
 decreases-white l = l.end - l.n

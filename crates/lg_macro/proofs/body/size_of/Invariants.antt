@@ -1,6 +1,7 @@
-use Rattle.std.proofs.Common.{◌≡◌, ◌≤◌, drop, fold}
+use Rattle.std.proofs.Common.{◌≡◌, ◌≤◌, fold}
 use Rattle.lg_macro.specs.Defines.{with_len, size_of}
+use Rattle.lg_macro.specs.Pieces.{between}
 use Rattle.lg_macro.proofs.body.size_of.Given as goal
 
 abbrev pub invariant-pieces : goal.invariant-pieces
-invariant-pieces l = (l.n ≤ 16777217) × (fold with_len l.n (drop l.at l.pieces) ≡ size_of l.pieces)
+invariant-pieces l = (l.n ≤ 16777217) × (fold with_len l.n (between l.at l.end l.pieces) ≡ size_of (between l.from l.end l.pieces))

@@ -1,26 +1,59 @@
-use Rattle.std.proofs.Common.{ap, length-drop, ◌∙◌, ◌-◌, sym, refl, length, arith}
-use Rattle.std.proofs.lemmas.List.{length-take-le}
+use Rattle.std.proofs.Common.{◌≡◌, ◌≤◌, ◌+◌, ◌-◌, ◌++◌, ◌∷◌, [], ℕ, List, ap, length-drop, ◌∙◌, sym, refl, length, drop, take, map, false, arith}
+use Rattle.std.proofs.lemmas.List.{length-take-le, map_push}
+use Rattle.lg_macro.specs.declared.pieces.Part.{Part}
+use Rattle.lg_macro.specs.PieceParts.{piece_of}
+use Rattle.lg_macro.specs.Text.{text_pieces}
+use Rattle.lg_macro.proofs.RowLemmas.{pushed_at}
 use Rattle.lg_macro.proofs.TextLemmas.{text_more, text_done}
 use Rattle.lg_macro.proofs.text.text_pieces.Goals as goal
 
 pub pieces-init : goal.pieces-init
-pieces-init c = (refl, omega arith, omega arith, omega (arith, c.requires), (length c.args.text.now, omega arith, rw c.new-out.ensures refl))
+pieces-init c = (
+  refl,
+  omega arith,
+  omega arith,
+  omega (arith, c.requires),
+  (
+    length c.args.text.now,
+    omega arith,
+    ap (λ (l : List Part). map (piece_of c.args.text.now) l ++ text_pieces (length c.args.text.now) 1 c.args.text.now) c.new-parts.ensures.items,
+  ),
+  rw c.new-parts.ensures.items (λ k d lt. absurd (omega (arith, lt)), refl),
+)
 
 pub line_after-line-requires : goal.line_after-line-requires
 line_after-line-requires c = omega (arith, c.pieces.invariant.2, c.pieces.invariant.3, c.front_of-kind.ensures.inside, ap length c.behind-rest.ensures, length-drop c.pieces.at c.args.text.now, ap length c.ahead-piece.ensures, length-take-le c.front_of-kind.result.1 c.behind-rest.result.now c.front_of-kind.ensures.inside)
 
 pub pieces-preserved : goal.pieces-preserved
-pieces-preserved c = (
-  refl,
-  omega (arith, c.front_of-kind.ensures.inside, ap length c.behind-rest.ensures, length-drop c.pieces.at c.args.text.now),
-  omega (arith, c.pieces.invariant.2, c.line_after-line.ensures.few, ap length c.ahead-piece.ensures, length-take-le c.front_of-kind.result.1 c.behind-rest.result.now c.front_of-kind.ensures.inside),
-  c.pieces.invariant.3,
-  (
-    c.pieces.invariant.4.0 - 1,
-    omega (arith, c.front_of-kind.ensures.some),
-    text_more c.pieces.invariant.4.0 c.pieces.line c.line_after-line.result c.pieces.at c.args.text.now c.behind-rest.result.now c.ahead-piece.result.now c.front_of-kind.result c.pieces.out c.push.new.self (omega arith) (omega arith) c.behind-rest.ensures c.front_of-kind.ensures.value c.front_of-kind.ensures.some c.ahead-piece.ensures c.in_ok-push.ensures c.line_after-line.ensures.value ∙ c.pieces.invariant.4.2,
-  ),
-)
+pieces-preserved c =
+    let at = c.pieces.at in
+    let text = c.args.text.now in
+    let n = c.front_of-kind.result.1 in
+    let part : Part = record { kind = c.front_of-kind.result.0; frozen = false; line = c.pieces.line; start = at; end = at + n } in
+    let size : at + n - at ≡ n = omega arith in
+    let inside : at + n ≤ length text = omega (arith, c.front_of-kind.ensures.inside, ap length c.behind-rest.ensures, length-drop at text) in
+    let own : take (at + n - at) (drop at text) ≡ c.ahead-piece.result.now = ap (λ (k : ℕ). take k (drop at text)) size ∙ ap (take n) (sym c.behind-rest.ensures) ∙ sym c.ahead-piece.ensures in
+    let more : map (piece_of text) c.push.new.self.items ≡ map (piece_of text) c.pieces.parts.items ++ record { kind = part.kind; text = c.ahead-piece.result.now; line = part.line; frozen = false } ∷ [] =
+    ap (map (piece_of text)) c.in_ok-push.ensures.items ∙ map_push (piece_of text) c.pieces.parts.items part
+    ∙ ap (λ (t : List ℕ). map (piece_of text) c.pieces.parts.items ++ record { kind = part.kind; text = t; line = part.line; frozen = false } ∷ []) own in (
+      refl,
+      inside,
+      omega (arith, c.pieces.invariant.2, c.line_after-line.ensures.few, ap length c.ahead-piece.ensures, length-take-le n c.behind-rest.result.now c.front_of-kind.ensures.inside),
+      c.pieces.invariant.3,
+      (
+        c.pieces.invariant.4.0 - 1,
+        omega (arith, c.front_of-kind.ensures.some),
+        text_more c.pieces.invariant.4.0 c.pieces.line c.line_after-line.result at text c.behind-rest.result.now c.ahead-piece.result.now c.front_of-kind.result (map (piece_of text) c.pieces.parts.items)
+            (map (piece_of text) c.push.new.self.items) (omega arith) (omega arith) c.behind-rest.ensures c.front_of-kind.ensures.value c.front_of-kind.ensures.some c.ahead-piece.ensures more
+            c.line_after-line.ensures.value ∙ c.pieces.invariant.4.2,
+      ),
+      pushed_at text at (at + n) c.pieces.parts.items c.push.new.self.items part c.pieces.invariant.5 c.in_ok-push.ensures.items refl refl (omega arith) inside,
+    )
+
+pub of-requires : goal.of-requires
+of-requires c =
+    let e : length c.args.text.now ≡ c.pieces.at = omega arith in
+    (c.pieces.invariant.5.0, ap (λ (n : ℕ). map (λ (p : Part). p.start) c.pieces.parts.items ++ n ∷ []) e ∙ c.pieces.invariant.5.1)
 
 pub returns : goal.returns
-returns c = sym (text_done c.pieces.invariant.4.0 c.pieces.line c.pieces.at c.args.text.now c.pieces.out (omega arith)) ∙ c.pieces.invariant.4.2
+returns c = c.in_ok-pieces.ensures ∙ sym (text_done c.pieces.invariant.4.0 c.pieces.line c.pieces.at c.args.text.now (map (piece_of c.args.text.now) c.pieces.parts.items) (omega arith)) ∙ c.pieces.invariant.4.2

@@ -4,6 +4,7 @@ use Rattle.lg_replacement.specs.Expansion.{expand_in, Outcome, Step}
 use Rattle.lg_macro.specs.Arguments.{arguments_of}
 use Rattle.lg_macro.specs.Pieces.{piece_at}
 use Rattle.lg_replacement.proofs.ExpansionLemmas.{expand_none, expand_begun, walk_done, walk_more, walk_stop, each_next, each_stop, each_done, counts_stop, steps_stop, eachs_stop, counts_blames, steps_blames, each_blames, replaced_uncounted, replaced_halts, replaced_put, arguments_some, arguments_none, called_wrong, called_halts, called_done, opened_called, opened_wrong}
+use Rattle.lg_replacement.proofs.ReplacementLemmas.{each-plain}
 use Rattle.lg_replacement.proofs.expansion.+expand.Goals as goal
 
 pub expand-returns-then-levels-eq0-clause-gives : goal.expand-returns-then-levels-eq0-clause-gives
@@ -91,3 +92,11 @@ opened-returns-in-Some-closing-clause-gives t c =
 pub opened-returns-in-None-closing-clause-gives : goal.opened-returns-in-None-closing-clause-gives
 opened-returns-in-None-closing-clause-gives t c =
     rw c.refused.ensures (opened_wrong (expand_in c.args.table.now c.args.levels) (piece_at c.args.pieces.now c.args.at) c.args.work.now.hidden.items c.args.place c.args.entry.now (c.args.out.now, c.args.work.now.sum) c.args.pieces.now c.args.at c.args.arity c.in-Some.begun c.line.result c.line.ensures c.in-Some.ensures.value c.in-None-closing.ensures.value)
+
+pub with_arguments-returns-then-name_nothing-clause-gives : goal.with_arguments-returns-then-name_nothing-clause-gives
+with_arguments-returns-then-name_nothing-clause-gives t c =
+    let hidden = c.count.new.work.hidden.items in
+    let plain = each-plain c.args.table.now c.args.levels c.args.line hidden c.args.raw.now c.count.new.work.sum (omega arith) (c.name_nothing.ensures c.if-name_nothing.true) in
+    subst (λ (read : Outcome). CountsAs c.put.result (c.put.new.out, c.put.new.work.sum) read)
+    (sym (replaced_put (expand_in c.args.table.now c.args.levels) c.args.line c.args.work.now.hidden.items hidden hidden c.args.place c.args.entry.now c.args.out.now c.args.work.now.sum c.count.new.work.sum c.count.new.work.sum c.args.raw.now c.args.raw.now c.args.raw.now c.in_ok-count.ensures.counts c.count.ensures.hidden plain refl refl))
+    c.put.ensures.gives

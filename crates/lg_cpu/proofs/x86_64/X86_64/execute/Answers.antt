@@ -1,4 +1,4 @@
-use Rattle.std.proofs.Common.{rules, ◌-◌, ◌+◌, ◌%◌, ◌^◌, ◌≡◌, ◌<◌, ◌≤◌, drop, arith}
+use Rattle.std.proofs.Common.{rules, ◌-◌, ◌^◌, ◌<◌, drop}
 use Rattle.lg_base.specs.Layout.{code_base}
 use Rattle.lg_cpu.proofs.X86NextLemmas.{front-short, next-apart}
 use Rattle.lg_cpu.proofs.x86_64.X86_64.execute.Goals as goal

@@ -13,7 +13,7 @@ invariant_of-result c =
     let locals : f.locals ≡ 0 = ap (λ (x : Frame). x.locals) frame in
     let none = c.in_ok-with_capacity.ensures.items in
     record {
-      stacked = rw none sp;
+      stacked = rw none (omega (arith, sp));
       top_fits = record { low = omega (arith, sp, size); whole = inl locals };
       high = omega (arith, sp);
       data_small = c.requires.image;
