@@ -6,14 +6,15 @@ ghost use Rattle.lg_base.specs.Layout.{most_code};
 
 use crate::code::code_with;
 use crate::run::args_of;
-use crate::stack::unit_in;
+use crate::stack::program_of;
 use crate::targets::TARGETS;
 use crate::trouble::{Trouble, print_trouble};
 use lg_asm::Code;
 use lg_base::{DataImage, OutOfMemory, Stop, Target};
 use lg_cpu::{Cpu, CpuStep};
 use lg_io::MemorySink;
-use lg_node::{Label, Unit};
+use lg_node::Label;
+use lg_stack_language::{Function, Program};
 use std::alloc::Global;
 use std::io;
 
@@ -23,22 +24,26 @@ const ANYTHING: u64 = 0x5A5A_5A5A_5A5A_5A5A;
 // The most steps of a call.
 const MOST_STEPS: u64 = 1_000_000;
 
-// Returns the label of a function by its name, which is the word of its label.
-fn function_of(unit: &Unit, name: &str) -> Option<Label> {
-    for number in 0..unit.nodes.labels() {
-        if unit.nodes.word(Label(number)) == name.as_bytes() {
-            return Some(Label(number));
+// Returns the label of the function that a line calls: its first word is the name.
+fn label_of(functions: &[Function], line: &str) -> Option<Label> {
+    let name = line.split(' ').next().unwrap_or("");
+    for function in functions {
+        if function.name == name {
+            return Some(function.label);
         }
     }
     None
 }
 
-// Returns the labels of the functions that some lines call by their first words.
-fn entries_of(alloc: Global, unit: &Unit, lines: &str) -> Result<Vec<Label>, OutOfMemory> {
+// Returns the labels of the functions that some lines call.
+fn entries_of(
+    alloc: Global,
+    functions: &[Function],
+    lines: &str,
+) -> Result<Vec<Label>, OutOfMemory> {
     let mut entries = Vec::new(alloc);
     for line in lines.lines() {
-        let name = line.split(' ').next().unwrap_or("");
-        if let Some(label) = function_of(unit, name) {
+        if let Some(label) = label_of(functions, line) {
             entries.push(label)?;
         }
     }
@@ -97,68 +102,69 @@ fn print_call(
 // Makes the calls of the lines on one processor.
 fn print_calls(
     rt: &HostRuntime,
-    unit: &Unit,
+    functions: &[Function],
     code: &Code,
     cpu: &mut Cpu,
     lines: &str,
     out: &mut MemorySink,
 ) -> io::Result<()> {
     for line in lines.lines() {
-        let name = line.split(' ').next().unwrap_or("");
-        let label = function_of(unit, name).unwrap_or(Label(0));
+        let label = label_of(functions, line).unwrap_or(Label(0));
         let address = code.labels().as_slice().get(label.0 as usize);
         print_call(rt, cpu, address.copied().unwrap_or(0), line, out)?;
     }
     Ok(())
 }
 
-// The same on a new processor of code.
-fn call_code(rt: &HostRuntime, unit: &Unit, code: &Code, lines: &str) -> io::Result<()>
+// The same on a new processor of the code of a program.
+fn call_code(rt: &HostRuntime, program: &Program, code: &Code, lines: &str) -> io::Result<()>
     requires code { length code.now.bytes ≤ most_code }
-    requires image { length unit.now.image ≤ 0x1000000 }
+    requires image { length program.now.unit.image ≤ 0x1000000 }
 {
-    let made = processor_of(rt.alloc(), code, &unit.image);
+    let made = processor_of(rt.alloc(), code, &program.unit.image);
     match (made, MemorySink::new(rt.alloc(), 0, &[])) {
-        (Ok(mut cpu), Ok(mut out)) => print_calls(rt, unit, code, &mut cpu, lines, &mut out),
+        (Ok(mut cpu), Ok(mut out)) => {
+            print_calls(rt, &program.functions, code, &mut cpu, lines, &mut out)
+        }
         (Err(stop), _) => print_trouble(rt, &Trouble::Stop(stop)),
         (_, Err(error)) => print_trouble(rt, &Trouble::Stop(Stop::from(error))),
     }
 }
 
-// Returns the code of a unit for a target, whose functions that the lines name are called from outside.
-fn code_for(alloc: Global, unit: &Unit, target: Target, lines: &str) -> Result<Code, Stop>
-    requires { AreInside unit.now.nodes (length unit.now.image) }
+// Returns the code of a program for a target, whose functions that the lines name are called from outside.
+fn code_for(alloc: Global, program: &Program, target: Target, lines: &str) -> Result<Code, Stop>
+    requires { AreInside program.now.unit.nodes (length program.now.unit.image) }
     ensures { IfOk result (λ c. length c.bytes ≤ most_code) }
 {
-    let entries = entries_of(alloc, unit, lines)?;
-    code_with(alloc, unit, target, &entries)
+    let entries = entries_of(alloc, &program.functions, lines)?;
+    code_with(alloc, &program.unit, target, &entries)
 }
 
-// Makes the calls of the lines on the code of a unit for a target.
-fn call_on(rt: &HostRuntime, unit: &Unit, target: Target, lines: &str) -> io::Result<()>
-    requires { AreInside unit.now.nodes (length unit.now.image) }
+// Makes the calls of the lines on the code of a program for a target.
+fn call_on(rt: &HostRuntime, program: &Program, target: Target, lines: &str) -> io::Result<()>
+    requires { AreInside program.now.unit.nodes (length program.now.unit.image) }
 {
-    match code_for(rt.alloc(), unit, target, lines) {
-        Ok(code) => call_code(rt, unit, &code, lines),
+    match code_for(rt.alloc(), program, target, lines) {
+        Ok(code) => call_code(rt, program, &code, lines),
         Err(stop) => print_trouble(rt, &Trouble::Stop(stop)),
     }
 }
 
 // The same on each target.
-fn call_unit(rt: &HostRuntime, unit: &Unit, lines: &str) -> io::Result<()>
-    requires { AreInside unit.now.nodes (length unit.now.image) }
+fn call_program(rt: &HostRuntime, program: &Program, lines: &str) -> io::Result<()>
+    requires { AreInside program.now.unit.nodes (length program.now.unit.image) }
 {
     for (target, name) in TARGETS {
         println!(rt; "{name}")?;
-        call_on(rt, unit, *target, lines)?;
+        call_on(rt, program, *target, lines)?;
     }
     Ok(())
 }
 
 /// Compiles a text, and calls its functions on each target: each line has the name of one and the words that it is called with.
 pub fn call_functions(rt: &HostRuntime, text: &str, lines: &str) -> io::Result<()> {
-    match unit_in(rt.alloc(), text) {
-        Ok(unit) => call_unit(rt, &unit, lines),
+    match program_of(rt.alloc(), text) {
+        Ok(program) => call_program(rt, &program, lines),
         Err(trouble) => print_trouble(rt, &trouble),
     }
 }

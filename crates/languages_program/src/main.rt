@@ -1,6 +1,7 @@
 // Compiles texts of two small languages to machine code, and runs it on the three processors: how a program uses the assembler without the command and its
-// texts. `expressions` has a language of expressions, `stack` one with functions, loops and recursion, whose functions `calls` calls by themselves. For each text it prints what each target's code
-// writes for each argument; at last the listing of one expression, and what is wrong with texts that are none.
+// texts. `expressions` has a language of expressions, `stack` one with functions, loops and recursion. For each text it prints what each target's code writes
+// for each argument; at last the listing of one expression, the words that functions of the stack language return to `calls`, and what is wrong with texts that
+// are none.
 #![tactic(auto)]
 
 mod calls;

@@ -6,28 +6,36 @@ ghost use Rattle.lg_asm.specs.Addresses.{AreInside};
 use crate::targets::run_made;
 use crate::trouble::{Trouble, print_trouble};
 use lg_node::{Unit, check};
-use lg_stack_language::compile;
+use lg_stack_language::{Program, compile};
 use std::alloc::Global;
 use std::io;
 
-/// Returns the unit of the program that a text is.
-pub fn unit_in(alloc: Global, text: &str) -> Result<Unit, Trouble>
-    ensures { IfOk result (λ u. AreInside u.nodes (length u.image)) }
+/// Returns the program that a text is.
+pub fn program_of<'a>(alloc: Global, text: &'a str) -> Result<Program<'a>, Trouble>
+    ensures { IfOk result (λ p. AreInside p.unit.nodes (length p.unit.image)) }
 {
     match compile(alloc, text) {
-        Ok(unit) => Ok(unit),
+        Ok(program) => Ok(program),
         Err(fault) => Err(Trouble::Program(fault)),
     }
 }
 
+// Returns the unit of the program that a text is.
+fn unit_of(alloc: Global, text: &str) -> Result<Unit, Trouble>
+    ensures { IfOk result (λ u. AreInside u.nodes (length u.image)) }
+{
+    let Program { unit, .. } = program_of(alloc, text)?;
+    Ok(unit)
+}
+
 /// Compiles a text, and runs its code on each target with each of the arguments, which have spaces between.
 pub fn run_program(rt: &HostRuntime, text: &str, arguments: &str) -> io::Result<()> {
-    run_made(rt, unit_in(rt.alloc(), text), arguments)
+    run_made(rt, unit_of(rt.alloc(), text), arguments)
 }
 
 // What is wrong with a text, if anything is.
 fn trouble_of(alloc: Global, text: &str) -> Option<Trouble> {
-    match unit_in(alloc, text) {
+    match unit_of(alloc, text) {
         Ok(unit) => match check(alloc, &unit) {
             Ok(_) => None,
             Err(stop) => Some(Trouble::Stop(stop)),

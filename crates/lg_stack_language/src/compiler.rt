@@ -14,12 +14,19 @@ use std::str::SplitWhitespace;
 // The size of a local.
 const WORD: u32 = 8;
 
-// A function that can be called.
+/// A function of a text: its name, the label that it is called by, and how many words it is called with.
 #[derive(Clone, Copy)]
-struct Function<'a> {
-    name: &'a str,
-    label: Label,
-    arguments: u32,
+pub struct Function<'a> {
+    pub name: &'a str,
+    pub label: Label,
+    pub arguments: u32,
+}
+
+/// What is made of a text: its unit, and its functions in the order in which the text names them, behind `main`.
+#[derive(Drop)]
+pub struct Program<'a> {
+    pub unit: Unit,
+    pub functions: Vec<Function<'a>>,
 }
 
 // An argument or a local, by its offset from FP.
@@ -294,17 +301,26 @@ fn unit_of(alloc: Global, emitter: Emitter) -> Result<Unit, Fault>
     }
 }
 
-/// Makes the unit of a text, or gives its first fault with the line. The entry calls the function `main` with the number that the second word of the run says. A
-/// text without `main` is left to `check`, which finds the label of the entry's call missing.
-pub fn compile(alloc: Global, text: &str) -> Result<Unit, Fault>
-    ensures inside { IfOk result (λ u. AreInside u.nodes) }
-    ensures image { IfOk result (λ u. u.image ≡ format) }
+/// Makes the program of a text, or gives its first fault with the line. The entry calls the function `main` with the number that the second word of the run says.
+/// A text without `main` is left to `check`, which finds the label of the entry's call missing.
+pub fn compile<'a>(alloc: Global, text: &'a str) -> Result<Program<'a>, Fault>
+    ensures inside { IfOk result (λ p. AreInside p.unit.nodes) }
+    ensures image { IfOk result (λ p. p.unit.image ≡ format) }
 {
     let mut compiler = Compiler::new(alloc);
-    match compiler.text(text) {
-        Ok(()) => unit_of(alloc, compiler.emitter),
+    let result = compiler.text(text);
+    let Compiler {
+        emitter,
+        functions,
+        ..
+    } = compiler;
+    match result {
+        Ok(()) => Ok(Program {
+            unit: unit_of(alloc, emitter)?,
+            functions,
+        }),
         Err(error) => Err(Fault {
-            line: compiler.emitter.line(),
+            line: emitter.line(),
             error,
         }),
     }

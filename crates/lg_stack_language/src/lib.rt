@@ -8,5 +8,5 @@ mod emitter;
 mod fault;
 mod writer;
 
-pub use compiler::compile;
+pub use compiler::{Function, Program, compile};
 pub use fault::{CompileError, Fault};
