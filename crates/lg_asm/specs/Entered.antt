@@ -1,10 +1,11 @@
 -- A function that is called from outside: the processor at its first instruction, by the convention of its target and whatever else it holds, and what its run then is.
-use Rattle.std.specs.Prelude.{◌≡◌, ℕ, ◌+◌, ◌^◌, ◌<◌, ◌≤◌, true, List, Option, Some, None, length, is_some, slice_get, slice_index}
+use Rattle.std.specs.Prelude.{◌≡◌, ℕ, ◌+◌, ◌*◌, ◌^◌, ◌<◌, ◌≤◌, true, List, [], Option, Some, None, length, is_some, slice_get, slice_index}
 use Rattle.lg_base.specs.Conventions.{stack_register, link_register}
 use Rattle.lg_base.specs.Layout.{stop_address}
 use Rattle.lg_base.specs.Parts.{heap_base, stack_base}
-use Rattle.lg_base.specs.Runs.{Status}
+use Rattle.lg_base.specs.Runs.{Status, Ended, iter}
 use Rattle.lg_base.specs.declared.target.Target.{Target}
+use Rattle.lg_carry.specs.Agreement.{meaning_of}
 use Rattle.lg_carry.specs.Frames.{arriving, IsLinked}
 use Rattle.lg_carry.specs.Memories.{SharesMemory}
 use Rattle.lg_carry.specs.Registers.{HoldsArguments, HasArguments}
@@ -12,16 +13,19 @@ use Rattle.lg_carry.specs.Stands.{HasParts, HasMemory}
 use Rattle.lg_cells.specs.Cells.{within}
 use Rattle.lg_cpu.specs.Entering.{entered}
 use Rattle.lg_cpu.specs.States.{CpuState}
+use Rattle.lg_cpu.specs.Targets.{machine_of}
 use Rattle.lg_meaning.specs.Fits.{FitsWell}
+use Rattle.lg_meaning.specs.Means as mean
 use Rattle.lg_meaning.specs.Starts.{Entry, MayEnter, begins_at, MayBegin, entered_state, entry_after}
 use Rattle.lg_meaning.specs.States.{State}
+use Rattle.lg_meaning.specs.Steps.{Left}
 use Rattle.lg_node.specs.Nodes.{LabelledNodes}
 use Rattle.lg_node.specs.Shapes.{TextShape}
 use Rattle.lg_node.specs.declared.unit.Unit.{Unit as TextUnit}
 use Rattle.lg_op.specs.declared.operand.Label.{Label}
 use Rattle.lg_va.specs.Calls.{calling_stack}
 use Rattle.lg_asm.specs.Assembled.{Assembled, IsCode, ComesFrom}
-use Rattle.lg_asm.specs.Called.{AgreesAs}
+use Rattle.lg_asm.specs.Called.{AgreesAs, EndsAsMeant, HasReturned, run_of}
 use Rattle.lg_asm.specs.Lowered.{is_marked, is_outward}
 
 -- a memory has the data part, the argument part and the heap of what a run begins with, and no other bytes between the data and the heap; heap and stack are there,
@@ -79,3 +83,21 @@ EnteredCodeAgrees =
     → (i : ℕ) (x : Label) → slice_get entries i ≡ Some x → MayBegin unit.nodes (Some x)
     → (e : Entry) (trash : ℕ) (q : CpuState) → trash < 2 ^ 64 → IsEntered c.target e (slice_index c.labels x.0) q
     → AgreesAs c.bytes c.labels unit c.target e.sp trash (entered_state e (begins_at unit.nodes (Some x))) q
+
+-- where the meaning of a call has returned after m steps, the run has ended after at most 64 times as many: with the same output, at its return address, with the
+-- word, where there is one, in the result register, the stack pointer and every callee-saved register as they were, and every byte of the data part, the argument
+-- part and the heap, and the heap mark, as the meaning has them. This is a state before the next call (`CallsFollow`)
+pub record GivesBack (code addresses : List ℕ) (unit : TextUnit) (target : Target) (sp trash : ℕ) (s : State) (q : CpuState) (m : ℕ) (answer : Option ℕ) : Type 0 where
+  pub steps : ℕ
+  pub few : steps ≤ 64 * m
+  pub ended : (machine_of target code trash).status (iter (machine_of target code trash).step steps (run_of q)) ≡ Ended 0
+  pub out : (iter (machine_of target code trash).step steps (run_of q)).out ≡ (iter (meaning_of unit addresses).step m (mean.run_at s [])).out
+  pub as_meant : EndsAsMeant target sp q (iter (meaning_of unit addresses).step m (mean.run_at s [])) (iter (machine_of target code trash).step steps (run_of q))
+  pub returned : HasReturned target sp q answer (iter (machine_of target code trash).step steps (run_of q)).state
+
+-- wherever code agrees with the meaning, a call of it gives back what the meaning's call returns
+abbrev pub CallsReturn : Type 0
+CallsReturn =
+    (code addresses : List ℕ) (unit : TextUnit) (target : Target) (sp trash : ℕ) (s : State) (q : CpuState) → AgreesAs code addresses unit target sp trash s q
+    → (m : ℕ) (answer : Option ℕ) → mean.ending_of (iter (meaning_of unit addresses).step m (mean.run_at s [])) ≡ Some (Left answer)
+    → GivesBack code addresses unit target sp trash s q m answer

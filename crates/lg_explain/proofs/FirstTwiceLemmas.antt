@@ -300,6 +300,29 @@ module _ (text : List ℕ) where
     pub again : Again labels names forms tokens at word
     pub first : (j : ℕ) (other : List ℕ) → j < at → Again labels names forms tokens j other → ⊥
 
+  -- it is the token at hand, or one of those behind it
+  abbrev pub first_now : (t : Token) (tokens : List Token) (labels names : List (List ℕ)) (forms : List Form) (word : List ℕ) → again forms t.kind (text_of text t) labels names ≡ Some word
+      → First labels names forms (t ∷ tokens) word
+  first_now t tokens labels names forms word e = record {
+    at = 0;
+    again = told_now t tokens forms labels names word e;
+    first = λ j other lt a. absurd (omega (arith, lt));
+  }
+
+  pub none_sooner : (t : Token) (tokens : List Token) (labels names : List (List ℕ)) (forms : List Form) (at : ℕ) → again forms t.kind (text_of text t) labels names ≡ None
+      → ((j : ℕ) (other : List ℕ) → j < at → later t tokens forms labels names j other → ⊥) → (j : ℕ) (other : List ℕ) → j < suc at → Again labels names forms (t ∷ tokens) j other → ⊥
+  none_sooner t tokens labels names forms at e first zero other lt a = let no = sym e ∙ now_told t tokens forms labels names other a in cc
+  none_sooner t tokens labels names forms at e first (suc j) other lt a = first j other (omega (arith, lt)) (again_off t tokens forms labels names j other a)
+
+  abbrev pub first_later : (t : Token) (tokens : List Token) (labels names : List (List ℕ)) (forms : List Form) (word : List ℕ) → again forms t.kind (text_of text t) labels names ≡ None
+      → First (labels_after forms t.kind (text_of text t) labels) (names_after forms t.kind (text_of text t) names) (forms_after forms t.kind (text_of text t)) tokens word
+      → First labels names forms (t ∷ tokens) word
+  first_later t tokens labels names forms word e h = record {
+    at = suc h.at;
+    again = again_on t tokens forms labels names h.at word h.again;
+    first = none_sooner t tokens labels names forms h.at e h.first;
+  }
+
   pub twice_first : (tokens : List Token) (labels names : List (List ℕ)) (forms : List Form) (word : List ℕ) → twice_from text tokens labels names forms ≡ Some word → First labels names forms tokens word
   unfolding twice_from
   twice_first [] labels names forms word e = cc
@@ -311,21 +334,8 @@ module _ (text : List ℕ) where
       rest = twice_from text tokens (labels_after forms t.kind (text_of text t) labels) (names_after forms t.kind (text_of text t) names) (forms_after forms t.kind (text_of text t))
 
       by : (o : Option (List ℕ)) → again forms t.kind (text_of text t) labels names ≡ o → option_or o rest ≡ Some word → (rest ≡ Some word → First (labels_after forms t.kind (text_of text t) labels) (names_after forms t.kind (text_of text t) names) (forms_after forms t.kind (text_of text t)) tokens word) → First labels names forms (t ∷ tokens) word
-      by (Some w) f g call = record {
-        at = 0;
-        again = told_now t tokens forms labels names word (f ∙ g);
-        first = λ j other lt a. absurd (omega (arith, lt));
-      }
-      by None f g call =
-          let h = call g in record {
-            at = suc h.at;
-            again = again_on t tokens forms labels names h.at word h.again;
-            first = sooner h.at h.first;
-          }
-        where
-          sooner : (at : ℕ) → ((j : ℕ) (other : List ℕ) → j < at → later t tokens forms labels names j other → ⊥) → (j : ℕ) (other : List ℕ) → j < suc at → Again labels names forms (t ∷ tokens) j other → ⊥
-          sooner at first zero other lt a = let no = sym f ∙ now_told t tokens forms labels names other a in cc
-          sooner at first (suc j) other lt a = first j other (omega (arith, lt)) (again_off t tokens forms labels names j other a)
+      by (Some w) f g call = first_now t tokens labels names forms word (f ∙ g)
+      by None f g call = first_later t tokens labels names forms word f (call g)
 
   pub none_twice : (tokens : List Token) (labels names : List (List ℕ)) (forms : List Form) → twice_from text tokens labels names forms ≡ None → (j : ℕ) (other : List ℕ) → Again labels names forms tokens j other → ⊥
   unfolding twice_from
@@ -364,23 +374,25 @@ module _ (text : List ℕ) where
           let no : ◌≡◌ {A = Bool} false true = sym (name_no_label (forms_at text [] tokens i) n.token.kind n.makes) ∙ (ap (λ (x : Token). makes_label (forms_at text [] tokens i) x.kind) same ∙ m.makes) in cc
 
   -- where nothing was made before
-  to_again : (tokens : List Token) (i : ℕ) (word : List ℕ) → Again [] [] [] tokens i word → MakesAgain text tokens i word
+  pub to_again : (tokens : List Token) (i : ℕ) (word : List ℕ) → Again [] [] [] tokens i word → MakesAgain text tokens i word
   to_again tokens i word (inl (m, inl e)) = cc
   to_again tokens i word (inl (m, inr (j, lt, f))) = inl (record { before = j; sooner = lt; first = f; second = m })
   to_again tokens i word (inr (m, inl (e, none))) = cc
   to_again tokens i word (inr (m, inr (j, lt, f, none))) = inr (record { before = j; sooner = lt; first = f; second = m; within = λ k gt below b. none k (omega (arith, gt)) below b })
 
-  from_again : (tokens : List Token) (i : ℕ) (word : List ℕ) → MakesAgain text tokens i word → Again [] [] [] tokens i word
+  pub from_again : (tokens : List Token) (i : ℕ) (word : List ℕ) → MakesAgain text tokens i word → Again [] [] [] tokens i word
   from_again tokens i word (inl a) = inl (a.second, inr (a.before, a.sooner, a.first))
   from_again tokens i word (inr a) = inr (a.second, inr (a.before, a.sooner, a.first, λ k le lt b. a.within k (omega (arith, le)) lt b))
 
+  abbrev pub is_first : (tokens : List Token) (word : List ℕ) → First [] [] [] tokens word → IsFirstAgain text tokens word
+  is_first tokens word h = record {
+    at = h.at;
+    again = to_again tokens h.at word h.again;
+    first = λ j other lt a. h.first j other lt (from_again tokens j other a);
+  }
+
   pub first_again : (tokens : List Token) (word : List ℕ) → twice_from text tokens [] [] [] ≡ Some word → IsFirstAgain text tokens word
-  first_again tokens word e =
-      let h = twice_first tokens [] [] [] word e in record {
-        at = h.at;
-        again = to_again tokens h.at word h.again;
-        first = λ j other lt a. h.first j other lt (from_again tokens j other a);
-      }
+  first_again tokens word e = is_first tokens word (twice_first tokens [] [] [] word e)
 
   pub again_first : (tokens : List Token) (word : List ℕ) → IsFirstAgain text tokens word → twice_from text tokens [] [] [] ≡ Some word
   again_first tokens word h = by (twice_from text tokens [] [] []) refl

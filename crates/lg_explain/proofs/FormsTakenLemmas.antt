@@ -1,5 +1,5 @@
 -- The tokens that a statement takes, counted.
-use Rattle.std.proofs.Common.{◌≡◌, ℕ, suc, ◌+◌, Bool, true, false, List, [], ◌∷◌, ◌++◌, length, Option, Some, None, Ok, Err, IfOk, codes, refl, sym, ap, subst, arith}
+use Rattle.std.proofs.Common.{◌≡◌, ℕ, suc, ◌+◌, Bool, true, false, List, [], ◌∷◌, ◌++◌, length, Option, Some, None, Ok, Err, IfOk, codes, refl, sym, ap, ◌∙◌, subst, arith}
 use Rattle.std.specs.Prelude.{Result, if◌then◌else◌, nat_lt}
 use Rattle.std.specs.Str.{bytes_eq}
 use Rattle.std.proofs.lemmas.List.{length-append}
@@ -9,12 +9,14 @@ use Rattle.lg_base.specs.declared.refusal.RefusalKind.TheVariants.{FloatRefused,
 use Rattle.lg_lex.specs.declared.token.Token.{Token}
 use Rattle.lg_lex.specs.declared.token.TokenKind.{TokenKind}
 use Rattle.lg_lex.specs.declared.token.TokenKind.TheVariants.{Word, Directive, LabelMark, Register, Number, Character, Expression, Name, Host, Str}
+use Rattle.lg_node.specs.Functions.{is_prolog}
 use Rattle.lg_op.specs.declared.form.Form.{Form}
 use Rattle.lg_op.specs.declared.form.Form.TheVariants.{Immediate}
 use Rattle.lg_op.specs.declared.op.Op.{Op}
 use Rattle.lg_op.specs.declared.op.Op.TheVariants.{Binary, Wide, Branch, BranchSum, Control, Unary, Plain, Load, Store, Retval, Getarg}
 use Rattle.lg_op.specs.declared.op.PlainOp.TheVariants as plain
 use Rattle.lg_op.specs.declared.operand.Operand.{Operand}
+use Rattle.lg_tst.specs.Names.{no_names}
 use Rattle.lg_tst.specs.Statements.{instruction_or, statement_of, word_in}
 use Rattle.lg_tst.specs.Streams.{tail_of, wanted_of}
 use Rattle.lg_tst.specs.Units.{State, begun, behind, instruction, is_word_kind, most_nodes, name_word, named, noted, noted_by, operand_of, operands, statement_by, statement_from, token_text, written_forms}
@@ -29,7 +31,7 @@ use Rattle.lg_explain.specs.Twice.{forms_by, forms_of_word}
 abbrev Takes : List Token → ℕ → Result State Refusal → Type 0
 Takes left n read = IfOk read (λ u. length left ≡ n + length u.source.left)
 
-noted_same : (k : TokenKind) (s : State) (form : Form) (done : List Operand) (text : List ℕ) → (noted_by k s form done text).source ≡ s.source
+pub noted_same : (k : TokenKind) (s : State) (form : Form) (done : List Operand) (text : List ℕ) → (noted_by k s form done text).source ≡ s.source
 noted_same Word s form done text = refl
 noted_same Directive s form done text = refl
 noted_same LabelMark s form done text = refl
@@ -41,29 +43,37 @@ noted_same Name s form done text = refl
 noted_same Host s form done text = refl
 noted_same Str s form done text = refl
 
-begun_same : (op : Op) (s : State) → (begun op s).source ≡ s.source
-begun_same (Plain plain.Prolog) s = refl
-begun_same (Plain plain.Movi) s = refl
-begun_same (Plain plain.Prepare) s = refl
-begun_same (Plain plain.Ellipsis) s = refl
-begun_same (Plain plain.Epilog) s = refl
-begun_same (Plain plain.Ret) s = refl
-begun_same (Plain plain.Arg) s = refl
-begun_same (Plain plain.Allocai) s = refl
-begun_same (Plain plain.Align) s = refl
-begun_same (Plain plain.VaStart) s = refl
-begun_same (Plain plain.VaArg) s = refl
-begun_same (Plain plain.VaEnd) s = refl
-begun_same (Binary op last) s = refl
-begun_same (Wide op last) s = refl
-begun_same (Branch op last) s = refl
-begun_same (BranchSum op last) s = refl
-begun_same (Control op last) s = refl
-begun_same (Unary op) s = refl
-begun_same (Load t at) s = refl
-begun_same (Store t at) s = refl
-begun_same (Retval t) s = refl
-begun_same (Getarg t) s = refl
+-- what begins with an instruction: the names of the next function, with `prolog`
+pub begun_is : (op : Op) (s : State) → begun op s ≡ (if is_prolog op then record s { names = no_names } else s)
+begun_is (Plain plain.Prolog) s = refl
+begun_is (Plain plain.Movi) s = refl
+begun_is (Plain plain.Prepare) s = refl
+begun_is (Plain plain.Ellipsis) s = refl
+begun_is (Plain plain.Epilog) s = refl
+begun_is (Plain plain.Ret) s = refl
+begun_is (Plain plain.Arg) s = refl
+begun_is (Plain plain.Allocai) s = refl
+begun_is (Plain plain.Align) s = refl
+begun_is (Plain plain.VaStart) s = refl
+begun_is (Plain plain.VaArg) s = refl
+begun_is (Plain plain.VaEnd) s = refl
+begun_is (Binary op last) s = refl
+begun_is (Wide op last) s = refl
+begun_is (Branch op last) s = refl
+begun_is (BranchSum op last) s = refl
+begun_is (Control op last) s = refl
+begun_is (Unary op) s = refl
+begun_is (Load t at) s = refl
+begun_is (Store t at) s = refl
+begun_is (Retval t) s = refl
+begun_is (Getarg t) s = refl
+
+pub begun_same : (op : Op) (s : State) → (begun op s).source ≡ s.source
+begun_same op s = ap (λ z. z.source) (begun_is op s) ∙ by (is_prolog op)
+  where
+    by : (b : Bool) → (if b then record s { names = no_names } else s).source ≡ s.source
+    by true = refl
+    by false = refl
 
 -- a token that is requested is the first, and one more is taken
 one_more : (n : ℕ) (xs : List Token) (r : Result State Refusal) → Takes xs n r → (x : Token) → Takes (x ∷ xs) (suc n) r

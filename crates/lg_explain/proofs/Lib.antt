@@ -1,13 +1,16 @@
 pub mod BlamedLemmas
 pub mod BlameLemmas
+pub mod BoundLemmas
 pub mod CallLemmas
 pub mod FirstTwiceLemmas
 pub mod FormsTakenLemmas
 pub mod MisfitLemmas
 pub mod MisfitsRefusedLemmas
+pub mod ReadingStopsLemmas
 pub mod ReasonLemmas
 pub mod ShownLemmas
 pub mod TwiceLemmas
+pub mod TwiceStopsLemmas
 pub mod UnknownLemmas
 pub mod WriteLemmas
 pub mod WhyLemmas

@@ -76,3 +76,14 @@ abbrev pub FirstIsTold : Type 0
 FirstIsTold =
     (read text word : List ℕ) (fault : Refusal) → expanded read ≡ Ok text → unit_of text ≡ Err fault
     → (word_told read LabelTwice ≡ Some word) ↔ IsToldTwice text word
+
+-- a text that is refused for a word that is made twice is refused in the line of the first token that makes one again
+pub record IsRefusedThere (text : List ℕ) (fault : Refusal) : Type 0 where
+  pub word : List ℕ
+  pub first : IsFirstAgain text (tokens_of text).0 word
+  pub token : Token
+  pub here : slice_get (tokens_of text).0 first.at ≡ Some token
+  pub line : token.line ≡ fault.line
+
+abbrev pub TwiceIsWhereReadingStops : Type 0
+TwiceIsWhereReadingStops = (text : List ℕ) (fault : Refusal) → unit_of text ≡ Err fault → fault.kind ≡ LabelTwice → IsRefusedThere text fault

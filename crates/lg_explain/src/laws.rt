@@ -4,7 +4,7 @@ ghost use Rattle.lg_explain.specs.Blamed.{LabelsAreBlamed, WordsAreBlamed};
 ghost use Rattle.lg_explain.specs.FormsTaken.{FormsAreTaken};
 ghost use Rattle.lg_explain.specs.MisfitsRefused.{MisfitsAreRefused};
 ghost use Rattle.lg_explain.specs.ReasonsHold.{ReasonsHold};
-ghost use Rattle.lg_explain.specs.TwiceMade.{FirstIsMadeTwice, FirstIsTold};
+ghost use Rattle.lg_explain.specs.TwiceMade.{FirstIsMadeTwice, FirstIsTold, TwiceIsWhereReadingStops};
 
 /// The label that is reported of nodes that are refused is the one that the kind blames at the first node that is refused, whose line the refusal has: the
 /// first operand that is a label which nothing binds, the first that leads where it may not, or the first label that is bound there while a call is being
@@ -26,6 +26,12 @@ pub fn first_is_made_twice()
 /// And it is the word that is reported of what was read, whose expansion has no unit.
 pub fn first_is_told()
     ensures { FirstIsTold }
+{}
+
+/// And that token is where the reading stops: a text that is refused because a word is made twice is refused in the line of the first token that makes one
+/// again.
+pub fn twice_is_where_reading_stops()
+    ensures { TwiceIsWhereReadingStops }
 {}
 
 /// A token counts as no operand of a form exactly where the reading of operands refuses it for its form, whatever labels and names the text has made.

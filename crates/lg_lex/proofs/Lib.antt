@@ -6,6 +6,7 @@ pub mod ByteLemmas
 pub mod CompleteLemmas
 pub mod DigitLemmas
 pub mod ExpressionTokenLemmas
+pub mod FaultKindLemmas
 pub mod FrontLemmas
 pub mod LengthLemmas
 pub mod LineLemmas
