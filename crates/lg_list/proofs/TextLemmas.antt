@@ -13,8 +13,5 @@ length-hex [] = refl
 length-hex (b ∷ bs) = let h = length-hex bs in omega arith
 
 -- two digits more
-pub hex_more : (bs xs : List ℕ) (i : ℕ) (d : ℕ) → i < length bs → ((xs ++ hex (take i bs)) ++ (digit_glyph false (get_or bs i d / 16) ∷ [])) ++ (digit_glyph false (get_or bs i d % 16) ∷ []) ≡ xs ++ hex (take (i + 1) bs)
-hex_more bs xs i d lt =
-    let a = digit_glyph false (get_or bs i d / 16) ∷ [] in
-    let b = digit_glyph false (get_or bs i d % 16) ∷ [] in
-    append_assoc (xs ++ hex (take i bs)) a b ∙ append_assoc xs (hex (take i bs)) (a ++ b) ∙ ap (λ t. xs ++ t) (sym (hex-append (take i bs) (get_or bs i d ∷ [])) ∙ ap hex (sym (take_more bs i d lt)))
+pub hex_more : (bs xs : List ℕ) (i : ℕ) (d : ℕ) → i < length bs → (xs ++ hex (take i bs)) ++ hex (get_or bs i d ∷ []) ≡ xs ++ hex (take (i + 1) bs)
+hex_more bs xs i d lt = append_assoc xs (hex (take i bs)) (hex (get_or bs i d ∷ [])) ∙ ap (λ t. xs ++ t) (sym (hex-append (take i bs) (get_or bs i d ∷ [])) ∙ ap hex (sym (take_more bs i d lt)))

@@ -2,6 +2,7 @@
 
 ghost use Rattle.std.specs.Prelude.{◌≡◌, ◌<◌, ◌≤◌, ◌+◌, ◌*◌, ◌^◌, ◌%◌, ◌++◌, codes, length};
 ghost use Rattle.std.specs.Int.{w32, cast_unsigned};
+ghost use Rattle.lg_list.specs.Texts.{decimal};
 ghost use Rattle.lg_list.specs.Operands.{spelled, spelled_after};
 ghost use Rattle.lg_list.specs.Riscv64.{is_access, register, memory, target, imm_operands, operands, text_of};
 
@@ -42,16 +43,15 @@ fn is_access(op: ImmOp) -> bool
     )
 }
 
-// Appends a register after what is before it.
+// Appends a register's number after what is before it, the letter of the register included.
 #[inline(always)]
-fn push_x(line: &mut Line, before: &[u8], number: u8)
-    requires before { length before.now ≤ 2 }
+fn push_x(line: &mut Line, before_with_letter: &[u8], number: u8)
+    requires before { length before_with_letter.now ≤ 3 }
     requires room { length line.old + 25 ≤ 288 }
-    ensures text { line.new ≡ line.old ++ before.now ++ spelled (register number) }
+    ensures text { line.new ≡ line.old ++ before_with_letter.now ++ decimal number }
     ensures room { length line.new ≤ length line.old + 25 }
 {
-    line.push(before);
-    line.push(b"x");
+    line.push(before_with_letter);
     line.push_decimal(u64::from(number));
 }
 
@@ -62,8 +62,8 @@ fn push_two(line: &mut Line, first: u8, second: u8)
     ensures text { line.new ≡ line.old ++ codes " " ++ spelled (register first) ++ codes ", " ++ spelled (register second) }
     ensures room { length line.new ≤ length line.old + 50 }
 {
-    push_x(line, b" ", first);
-    push_x(line, b", ", second);
+    push_x(line, b" x", first);
+    push_x(line, b", x", second);
 }
 
 // Appends a register, the first of an instruction's operands, and another operand.
@@ -73,7 +73,7 @@ fn push_with(line: &mut Line, first: u8, other: Operand)
     ensures text { line.new ≡ line.old ++ codes " " ++ spelled (register first) ++ codes ", " ++ spelled other }
     ensures room { length line.new ≤ length line.old + 76 }
 {
-    push_x(line, b" ", first);
+    push_x(line, b" x", first);
     line.push_after(b", ", other);
 }
 
@@ -124,7 +124,7 @@ fn push_operands(line: &mut Line, at: u32, instr: &Instr)
         Instr::Store { rs1, rs2, imm, .. } => push_with(line, rs2, memory(rs1, imm)),
         Instr::Reg { rd, rs1, rs2, .. } => {
             push_two(line, rd, rs1);
-            push_x(line, b", ", rs2);
+            push_x(line, b", x", rs2);
         }
     }
 }
