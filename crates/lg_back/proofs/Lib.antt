@@ -1,4 +1,5 @@
 pub mod ValueLemmas
+pub mod PairLemmas
 pub mod WordLemmas
 pub mod NameLemmas
 pub mod InstructionLemmas

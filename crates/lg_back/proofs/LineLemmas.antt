@@ -1,6 +1,6 @@
 -- How the lines of a listing begin, and that one text begins with one of them.
 use Rattle.std.proofs.Common.{◌≡◌, ℕ, ◌+◌, ◌/◌, ◌%◌, ◌<◌, Bool, true, false, List, [], ◌∷◌, ◌++◌, length, drop, refl, sym, ap, ap₂, ◌∙◌, arith, append_assoc, codes, length-append, ◌≢◌, nat_eq}
-use Rattle.std.specs.Prelude.{slice_index, nat_lt, ◌==◌, if◌then◌else◌}
+use Rattle.std.specs.Prelude.{slice_index, nat_lt, ◌==◌, if◌then◌else◌, Option, Some, None, IfSome, IfNone}
 use Rattle.std.specs.Fmt.{digit_glyph}
 use Rattle.std.specs.List.{starts_with}
 use Rattle.std.proofs.lemmas.Bool.Decides.{nat_tests}
@@ -180,3 +180,13 @@ pub none-but-labels : (t : Target) (at : ℕ) (text : List ℕ) → starts_with 
 none-but-labels t at text begins ninth none (Label word) h = none t word h
 none-but-labels t at text begins ninth none (Node line op) h = no-node t at line op text begins h
 none-but-labels t at text begins ninth none (Code i) h = let n = code-ninth t at i text h in let yes = starts-again (drop 9 text) (32 ∷ []) n.0 n.1 in cc
+
+-- ---- what a length that is given says
+
+pub if-none : (r : Option ℕ) (P Q : Type 0) → (P → Q) → IfNone r P → IfNone r Q
+if-none None P Q f p = f p
+if-none (Some n) P Q f p = tt
+
+pub if-some : (r : Option ℕ) (P Q : ℕ → Type 0) → ((n : ℕ) → P n → Q n) → IfSome r P → IfSome r Q
+if-some None P Q f p = tt
+if-some (Some n) P Q f p = f n p

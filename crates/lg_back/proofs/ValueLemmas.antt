@@ -1,57 +1,64 @@
 -- The table of the values of hexadecimal digits is that of their definition.
-use Rattle.std.proofs.Common.{◌≡◌, ℕ, zero, suc, ◌+◌, ◌<◌, ◌≤◌, nat_lt, Bool, true, false, not, ◌&&◌, ◌==◌, List, [], ◌∷◌, length, get_or, Option, Some, None, refl, sym, ap, ◌∙◌, arith}
-use Rattle.std.specs.Prelude.{if◌then◌else◌}
-use Rattle.std.proofs.lemmas.Bool.{and_parts, false≢true}
+use Rattle.std.proofs.Common.{◌≡◌, ℕ, zero, suc, ◌+◌, ◌^◌, ◌<◌, ◌≤◌, nat_lt, Bool, true, ◌&&◌, ◌==◌, List, [], ◌∷◌, length, get_or, Option, Some, None, refl, sym, ap, subst, arith}
+use Rattle.std.proofs.lemmas.Bool.{and_parts}
 use Rattle.std.proofs.lemmas.Bool.Decides.{nat_tests}
 use Rattle.lg_back.specs.Digits.{digit_value}
 use Rattle.lg_back.specs.declared.digits.TheConstants.{VALUES}
 
--- what a number of the table says: below 16 it is the value, else there is none
-abbrev held : ℕ → Option ℕ
-held x = if nat_lt x 16 then Some x else None
-
+-- what a number of the table says: below 16 it is the value, and it is 2^32 where there is none
 abbrev fits : ℕ → Option ℕ → Bool
-fits x None = not (nat_lt x 16)
+fits x None = x == 4294967296
 fits x (Some v) = nat_lt x 16 && (x == v)
-
-not_true : (b : Bool) → not b ≡ true → b ≡ false
-not_true true e = absurd (false≢true e)
-not_true false e = refl
-
-same : (a b : ℕ) → (a == b) ≡ true → a ≡ b
-same a b e = grind (arith, nat_tests)
-
-fits_is : (x : ℕ) (o : Option ℕ) → fits x o ≡ true → held x ≡ o
-fits_is x None e = ap (λ (b : Bool). if b then Some x else None) (not_true (nat_lt x 16) e)
-fits_is x (Some v) e =
-    let parts = and_parts (nat_lt x 16) (x == v) e in
-    ap (λ (b : Bool). if b then Some x else None) parts.0 ∙ ap Some (same x v parts.1)
 
 -- a table from a code on
 abbrev agrees : ℕ → List ℕ → Bool
 agrees n [] = true
 agrees n (x ∷ xs) = fits x (digit_value n) && agrees (n + 1) xs
 
-agrees_at : (n : ℕ) (xs : List ℕ) (k : ℕ) → agrees n xs ≡ true → k < length xs → held (get_or xs k 0) ≡ digit_value (n + k)
+agrees_at : (n : ℕ) (xs : List ℕ) (k : ℕ) → agrees n xs ≡ true → k < length xs → fits (get_or xs k 0) (digit_value (n + k)) ≡ true
 agrees_at n [] k e h = absurd (omega arith)
 agrees_at n (x ∷ xs) zero e h =
     let parts = and_parts (fits x (digit_value n)) (agrees (n + 1) xs) e in
     let at : n ≡ n + 0 = omega arith in
-    fits_is x (digit_value n) parts.0 ∙ ap digit_value at
+    subst (λ m. fits x (digit_value m) ≡ true) at parts.0
 agrees_at n (x ∷ xs) (suc k) e h =
     let parts = and_parts (fits x (digit_value n)) (agrees (n + 1) xs) e in
     let at : (n + 1) + k ≡ n + suc k = omega arith in
-    agrees_at (n + 1) xs k parts.1 (omega arith) ∙ ap digit_value at
+    subst (λ m. fits (get_or xs k 0) (digit_value m) ≡ true) at (agrees_at (n + 1) xs k parts.1 (omega arith))
 
-value_is : (b : ℕ) → b < 256 → held (get_or VALUES b 0) ≡ digit_value b
-value_is b h = agrees_at 0 VALUES b refl h ∙ (let at : 0 + b ≡ b = omega arith in ap digit_value at)
+value_is : (b : ℕ) → b < 256 → fits (get_or VALUES b 0) (digit_value b) ≡ true
+value_is b h = let at : 0 + b ≡ b = omega arith in subst (λ m. fits (get_or VALUES b 0) (digit_value m) ≡ true) at (agrees_at 0 VALUES b refl h)
 
-pub value_some : (b : ℕ) → b < 256 → get_or VALUES b 0 < 16 → Some (get_or VALUES b 0) ≡ digit_value b
-value_some b h low =
-    let test : nat_lt (get_or VALUES b 0) 16 ≡ true = grind (arith, low) in
-    sym (ap (λ (t : Bool). if t then Some (get_or VALUES b 0) else None) test) ∙ value_is b h
+same : (a b : ℕ) → (a == b) ≡ true → a ≡ b
+same a b e = grind (arith, nat_tests)
 
-pub value_none : (b : ℕ) → b < 256 → 16 ≤ get_or VALUES b 0 → None ≡ digit_value b
-value_none b h high =
-    let test : nat_lt (get_or VALUES b 0) 16 ≡ false = grind (arith, high) in
-    sym (ap (λ (t : Bool). if t then Some (get_or VALUES b 0) else None) test) ∙ value_is b h
+low : (x : ℕ) → nat_lt x 16 ≡ true → x < 16
+low x e = grind (arith, nat_tests)
+
+fits_some : (x : ℕ) (o : Option ℕ) → fits x o ≡ true → x < 16 → o ≡ Some x
+fits_some x None e h = absurd (let far = same x 4294967296 e in omega (arith, h, far))
+fits_some x (Some v) e h = ap Some (sym (same x v (and_parts (nat_lt x 16) (x == v) e).1))
+
+fits_none : (x : ℕ) (o : Option ℕ) → fits x o ≡ true → 16 ≤ x → o ≡ None
+fits_none x None e h = refl
+fits_none x (Some v) e h = absurd (let lt = low x (and_parts (nat_lt x 16) (x == v) e).0 in omega (arith, h, lt))
+
+fits_far : (x : ℕ) (o : Option ℕ) → fits x o ≡ true → 16 ≤ x → x ≡ 2 ^ 32
+fits_far x None e h = same x 4294967296 e
+fits_far x (Some v) e h = absurd (let lt = low x (and_parts (nat_lt x 16) (x == v) e).0 in omega (arith, h, lt))
+
+fits_most : (x : ℕ) (o : Option ℕ) → fits x o ≡ true → x ≤ 2 ^ 32
+fits_most x None e = let is = same x 4294967296 e in omega (arith, is)
+fits_most x (Some v) e = let lt = low x (and_parts (nat_lt x 16) (x == v) e).0 in omega (arith, lt)
+
+pub value_some : (b : ℕ) → b < 256 → get_or VALUES b 0 < 16 → digit_value b ≡ Some (get_or VALUES b 0)
+value_some b h = fits_some (get_or VALUES b 0) (digit_value b) (value_is b h)
+
+pub value_none : (b : ℕ) → b < 256 → 16 ≤ get_or VALUES b 0 → digit_value b ≡ None
+value_none b h = fits_none (get_or VALUES b 0) (digit_value b) (value_is b h)
+
+pub value_far : (b : ℕ) → b < 256 → 16 ≤ get_or VALUES b 0 → get_or VALUES b 0 ≡ 2 ^ 32
+value_far b h = fits_far (get_or VALUES b 0) (digit_value b) (value_is b h)
+
+pub value_most : (b : ℕ) → b < 256 → get_or VALUES b 0 ≤ 2 ^ 32
+value_most b h = fits_most (get_or VALUES b 0) (digit_value b) (value_is b h)

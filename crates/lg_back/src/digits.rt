@@ -1,11 +1,11 @@
 // Parts of a text, and numbers in digits.
 
-ghost use Rattle.std.specs.Prelude.{◌≡◌, ◌<◌, ◌+◌, ◌^◌, ◌++◌, ℕ, true, false, length, drop, Some, IfSome, IfNone};
+ghost use Rattle.std.specs.Prelude.{◌≡◌, ◌<◌, ◌≤◌, ◌+◌, ◌^◌, ◌++◌, ℕ, true, false, length, drop, Some, None};
 ghost use Rattle.lg_list.specs.Texts.{decimal};
 ghost use Rattle.lg_back.specs.Words.{until, first_word, second_word};
 ghost use Rattle.lg_back.specs.Digits.{digit_value, byte_value, hex_front};
 
-use lg_base::Piece;
+use crate::line_bytes::LineBytes;
 
 /// What is after this many bytes of a text: nothing where it has fewer.
 pub fn behind(text: &[u8], count: usize) -> &[u8]
@@ -61,41 +61,62 @@ pub fn read_decimal(text: &[u8]) -> Option<u32>
     }
 }
 
-// Of each byte the value of the lower hexadecimal digit that it is, or 16.
-static VALUES: [u8; 256] = [
-    16, 16, 16, 16, 16, 16, 16, 16, 16, 16, 16, 16, 16, 16, 16, 16, 16, 16, 16, 16, 16, 16, 16, 16,
-    16, 16, 16, 16, 16, 16, 16, 16, 16, 16, 16, 16, 16, 16, 16, 16, 16, 16, 16, 16, 16, 16, 16, 16,
-    0, 1, 2, 3, 4, 5, 6, 7, 8, 9, 16, 16, 16, 16, 16, 16, 16, 16, 16, 16, 16, 16, 16, 16, 16, 16,
-    16, 16, 16, 16, 16, 16, 16, 16, 16, 16, 16, 16, 16, 16, 16, 16, 16, 16, 16, 16, 16, 16, 16, 10,
-    11, 12, 13, 14, 15, 16, 16, 16, 16, 16, 16, 16, 16, 16, 16, 16, 16, 16, 16, 16, 16, 16, 16, 16,
-    16, 16, 16, 16, 16, 16, 16, 16, 16, 16, 16, 16, 16, 16, 16, 16, 16, 16, 16, 16, 16, 16, 16, 16,
-    16, 16, 16, 16, 16, 16, 16, 16, 16, 16, 16, 16, 16, 16, 16, 16, 16, 16, 16, 16, 16, 16, 16, 16,
-    16, 16, 16, 16, 16, 16, 16, 16, 16, 16, 16, 16, 16, 16, 16, 16, 16, 16, 16, 16, 16, 16, 16, 16,
-    16, 16, 16, 16, 16, 16, 16, 16, 16, 16, 16, 16, 16, 16, 16, 16, 16, 16, 16, 16, 16, 16, 16, 16,
-    16, 16, 16, 16, 16, 16, 16, 16, 16, 16, 16, 16, 16, 16, 16, 16, 16, 16, 16, 16, 16, 16, 16, 16,
-    16, 16, 16, 16, 16, 16, 16, 16, 16, 16, 16, 16, 16, 16,
+// More than eight hexadecimal digits spell.
+const NONE: u64 = 0x1_0000_0000;
+
+// Of each byte the value of the lower hexadecimal digit that it is, or `NONE`.
+static VALUES: [u64; 256] = [
+    NONE, NONE, NONE, NONE, NONE, NONE, NONE, NONE, NONE, NONE, NONE, NONE, NONE, NONE, NONE, NONE,
+    NONE, NONE, NONE, NONE, NONE, NONE, NONE, NONE, NONE, NONE, NONE, NONE, NONE, NONE, NONE, NONE,
+    NONE, NONE, NONE, NONE, NONE, NONE, NONE, NONE, NONE, NONE, NONE, NONE, NONE, NONE, NONE, NONE,
+    0, 1, 2, 3, 4, 5, 6, 7, 8, 9, NONE, NONE, NONE, NONE, NONE, NONE, NONE, NONE, NONE, NONE, NONE,
+    NONE, NONE, NONE, NONE, NONE, NONE, NONE, NONE, NONE, NONE, NONE, NONE, NONE, NONE, NONE, NONE,
+    NONE, NONE, NONE, NONE, NONE, NONE, NONE, NONE, NONE, NONE, NONE, NONE, 10, 11, 12, 13, 14, 15,
+    NONE, NONE, NONE, NONE, NONE, NONE, NONE, NONE, NONE, NONE, NONE, NONE, NONE, NONE, NONE, NONE,
+    NONE, NONE, NONE, NONE, NONE, NONE, NONE, NONE, NONE, NONE, NONE, NONE, NONE, NONE, NONE, NONE,
+    NONE, NONE, NONE, NONE, NONE, NONE, NONE, NONE, NONE, NONE, NONE, NONE, NONE, NONE, NONE, NONE,
+    NONE, NONE, NONE, NONE, NONE, NONE, NONE, NONE, NONE, NONE, NONE, NONE, NONE, NONE, NONE, NONE,
+    NONE, NONE, NONE, NONE, NONE, NONE, NONE, NONE, NONE, NONE, NONE, NONE, NONE, NONE, NONE, NONE,
+    NONE, NONE, NONE, NONE, NONE, NONE, NONE, NONE, NONE, NONE, NONE, NONE, NONE, NONE, NONE, NONE,
+    NONE, NONE, NONE, NONE, NONE, NONE, NONE, NONE, NONE, NONE, NONE, NONE, NONE, NONE, NONE, NONE,
+    NONE, NONE, NONE, NONE, NONE, NONE, NONE, NONE, NONE, NONE, NONE, NONE, NONE, NONE, NONE, NONE,
+    NONE, NONE, NONE, NONE, NONE, NONE, NONE, NONE, NONE, NONE, NONE, NONE, NONE, NONE, NONE, NONE,
+    NONE, NONE, NONE, NONE, NONE, NONE, NONE, NONE, NONE,
 ];
 
-// Returns the value of a lower hexadecimal digit.
-fn digit_value(code: u8) -> Option<u8>
-    ensures value { result ≡ digit_value code }
-    ensures low { IfSome result (λ v. v < 16) }
+// Returns the value of a lower hexadecimal digit, or `NONE`.
+#[inline(always)]
+fn digit(code: u8) -> u64
+    ensures some { result < 16 → digit_value code ≡ Some result }
+    ensures none { 16 ≤ result → digit_value code ≡ None }
+    ensures far { 16 ≤ result → result ≡ 2 ^ 32 }
+    ensures most { result ≤ 2 ^ 32 }
 {
-    let value = VALUES[code as usize];
-    if value < 16 { Some(value) } else { None }
+    VALUES[code as usize]
+}
+
+// Returns the byte that two lower hexadecimal digits spell, or more than eight digits spell where one is none.
+#[inline(always)]
+fn pair(high: u8, low: u8) -> u64
+    ensures some { result < 256 → byte_value high low ≡ Some result }
+    ensures none { 256 ≤ result → byte_value high low ≡ None }
+    ensures far { 256 ≤ result → 2 ^ 32 ≤ result }
+    ensures most { result < 2 ^ 37 }
+{
+    digit(high) * 16 + digit(low)
 }
 
 // Returns the byte that two lower hexadecimal digits spell.
+#[inline(always)]
 fn byte_value(high: u8, low: u8) -> Option<u8>
     ensures { result ≡ byte_value high low }
 {
-    let high = digit_value(high)?;
-    let low = digit_value(low)?;
-    Some(high * 16 + low)
+    let value = pair(high, low);
+    if value < 256 { Some(value as u8) } else { None }
 }
 
 // Appends the bytes that a text begins with, two digits each. False exactly where there are more than 16 in all.
-fn push_hex(text: &[u8], bytes: &mut Piece) -> bool
+fn push_hex(text: &[u8], bytes: &mut LineBytes) -> bool
     ensures all { result ≡ true → bytes.new ≡ bytes.old ++ hex_front text.now }
     ensures over { result ≡ false → 16 < length bytes.old + length (hex_front text.now) }
 {
@@ -114,15 +135,31 @@ fn push_hex(text: &[u8], bytes: &mut Piece) -> bool
     }
 }
 
-/// Returns the bytes that a text begins with, two lower hexadecimal digits each, as far as there are any, or `None` exactly when there are more than 16.
-pub fn read_hex(text: &[u8]) -> Option<Piece>
-    ensures all { IfSome result (λ bytes. bytes ≡ hex_front text.now) }
-    ensures over { IfNone result (16 < length (hex_front text.now)) }
+// Puts the first of the bytes that a text begins with, two digits each, in the place of those that there are: four, as most instructions have, or none where
+// fewer are in front. Returns the text after them.
+#[inline(always)]
+fn read_four<'a>(text: &'a [u8], bytes: &mut LineBytes) -> &'a [u8]
+    ensures { hex_front text.now ≡ bytes.new ++ hex_front result.now }
 {
-    let mut bytes = Piece::new();
-    if push_hex(text, &mut bytes) {
-        Some(bytes)
-    } else {
-        None
+    if let [a, b, c, d, e, f, g, h, rest @ ..] = text {
+        let word = ((pair(*a, *b) * 256 + pair(*c, *d)) * 256 + pair(*e, *f)) * 256 + pair(*g, *h);
+        if word < NONE {
+            bytes.set(&(word as u32).to_be_bytes());
+            return rest;
+        }
+    }
+    bytes.clear();
+    text
+}
+
+/// Puts the bytes that a text begins with, two lower hexadecimal digits each, as far as there are any, in the place of those that there are. False exactly when
+/// there are more than 16.
+pub fn read_hex(text: &[u8], bytes: &mut LineBytes) -> bool
+    ensures all { result ≡ true → bytes.new ≡ hex_front text.now }
+    ensures over { result ≡ false → 16 < length (hex_front text.now) }
+{
+    match read_four(text, bytes) {
+        [b' ', ..] => true,
+        rest => push_hex(rest, bytes),
     }
 }

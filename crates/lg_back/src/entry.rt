@@ -12,20 +12,12 @@ ghost use Rattle.lg_back.specs.Reading.{HasLine, HasNoLine, HasNodeLine, HasLabe
 
 use crate::digits::{behind, comment_words, read_decimal, until};
 use crate::instruction::read_instruction;
+use crate::line_bytes::LineBytes;
+use lg_base::Target;
 use lg_base::word_bytes::{is_word_byte, is_word_start};
-use lg_base::{Piece, Target};
 use lg_list::Line;
 use lg_list::lines::write_node_line;
 use lg_node::Op;
-
-/// A line after the first of a listing.
-#[derive(Drop)]
-pub struct EntryLine {
-    /// The bytes that it denotes: none but of an instruction.
-    pub bytes: Piece,
-    /// Its length, its line feed included.
-    pub len: usize,
-}
 
 // The length of the line of a node that a text begins with. What the line has is not looked at.
 fn read_node(text: &[u8], line: &mut Line) -> Option<usize>
@@ -91,22 +83,26 @@ fn read_label(at: u32, text: &[u8], line: &mut Line) -> Option<usize>
     }
 }
 
-/// The line after the first of a listing for a target that a text begins with, at an address. Lines to compare with are written into one that is given; what
-/// it has is not looked at.
-pub fn read_entry(target: Target, at: u32, text: &[u8], line: &mut Line) -> Option<EntryLine>
-    ensures found { IfSome result (λ f. (e : Entry) × HasLine target at text.now e × (f.bytes ≡ bytes_of e) × (f.len ≡ length (line_of at e))) }
+/// Returns the length of the line after the first of a listing for a target that a text begins with, at an address, its line feed included. The bytes that it
+/// denotes, none but of an instruction, are put in the place of those that are given. Lines to compare with are written into one that is given; what it has is
+/// not looked at.
+pub fn read_entry(
+    target: Target,
+    at: u32,
+    text: &[u8],
+    line: &mut Line,
+    bytes: &mut LineBytes,
+) -> Option<usize>
+    ensures found { IfSome result (λ len. (e : Entry) × HasLine target at text.now e × (bytes.new ≡ bytes_of e) × (len ≡ length (line_of at e))) }
     ensures none { IfNone result (HasNoLine target at text.now) }
 {
     if text.starts_with(b";") {
-        let len = read_node(text, line)?;
-        let bytes = Piece::new();
-        return Some(EntryLine { bytes, len });
+        bytes.clear();
+        return read_node(text, line);
     }
     if behind(text, 9).starts_with(b" ") {
-        let (bytes, len) = read_instruction(target, at, text, line)?;
-        return Some(EntryLine { bytes, len });
+        return read_instruction(target, at, text, line, bytes);
     }
-    let len = read_label(at, text, line)?;
-    let bytes = Piece::new();
-    Some(EntryLine { bytes, len })
+    bytes.clear();
+    read_label(at, text, line)
 }

@@ -8,6 +8,7 @@ mod entry;
 mod head;
 mod instruction;
 pub mod laws;
+mod line_bytes;
 mod reader;
 
 pub use reader::{Back, read_back};

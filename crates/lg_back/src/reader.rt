@@ -10,6 +10,7 @@ ghost use Rattle.lg_back.specs.Refused.{IsBadListing};
 
 use crate::entry::read_entry;
 use crate::head::{Head, read_head};
+use crate::line_bytes::LineBytes;
 use lg_base::layout::CODE_BASE_WORD;
 use lg_base::{CodeBytes, Refusal, RefusalKind, Stop, Target};
 use lg_list::Line;
@@ -97,6 +98,7 @@ fn read_lines(text: &[u8], head: Head, mut bytes: CodeBytes) -> Result<Back, Sto
     ensures { ReadsBack text.now result }
 {
     let mut written = Line::new();
+    let mut own = LineBytes::new();
     let mut at = head.len;
     let mut line = 2;
     let mut done = 0;
@@ -106,13 +108,14 @@ fn read_lines(text: &[u8], head: Head, mut bytes: CodeBytes) -> Result<Back, Sto
             CODE_BASE_WORD + done,
             &text[at..],
             &mut written,
+            &mut own,
         ) {
             None => return Err(bad_listing(line)),
-            Some(entry) => {
-                let own = entry.bytes.as_slice();
-                done += own.len() as u32;
-                keep(&mut bytes, own, done, head.count);
-                at += entry.len;
+            Some(len) => {
+                let list = own.as_slice();
+                done += list.len() as u32;
+                keep(&mut bytes, list, done, head.count);
+                at += len;
                 line += 1;
             }
         }

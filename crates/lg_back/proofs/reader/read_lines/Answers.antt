@@ -23,20 +23,20 @@ returns-in-None c =
     rw c.bad_listing.ensures (refl, read-bad c.args.text.now c.args.head.target c.args.head.count c.loop-at.bytes.items c.loop-at.bytes.room c.loop-at.at c.loop-at.line c.loop-at.done r c.loop-at-test.true none)
 
 pub overflow_add-done-in-Some : goal.overflow_add-done-in-Some
-overflow_add-done-in-Some c = omega (arith, c.loop-at.invariant.half, c.loop-at.invariant.within, c.requires.small, c.as_slice-own.ensures.room)
+overflow_add-done-in-Some c = omega (arith, c.loop-at.invariant.half, c.loop-at.invariant.within, c.requires.small, c.as_slice-list.ensures.room)
 
 pub keep-requires : goal.keep-requires
 keep-requires c =
-    room-for c.args.text.now c.args.head.target c.args.head.count c.loop-at.bytes.items c.loop-at.bytes.room c.loop-at.at c.loop-at.line c.loop-at.done c.in-Some.entry.len c.as_slice-own.result.now
-    c.loop-at.invariant (next _ _ _ _ _ _ _ (rw take_rest at c.in-Some.ensures.found) c.as_slice-own.ensures.value)
+    room-for c.args.text.now c.args.head.target c.args.head.count c.loop-at.bytes.items c.loop-at.bytes.room c.loop-at.at c.loop-at.line c.loop-at.done c.in-Some.len c.as_slice-list.result.now
+    c.loop-at.invariant (next _ _ _ _ _ _ _ (rw take_rest at c.in-Some.ensures.found) c.as_slice-list.ensures.value)
 
 pub overflow_add-line : goal.overflow_add-line
 overflow_add-line c = omega (arith, c.loop-at.invariant.below, c.loop-at-test.true, c.requires.small)
 
 pub loop-at-preserved : goal.loop-at-preserved
 loop-at-preserved c =
-    read-goes c.args.text.now c.args.head.target c.args.head.count c.loop-at.bytes.items c.keep.new.bytes.items c.loop-at.bytes.room c.keep.new.bytes.room c.loop-at.at c.loop-at.line c.loop-at.done c.in-Some.entry.len
-    c.as_slice-own.result.now c.loop-at.invariant (next _ _ _ _ _ _ _ (rw take_rest at c.in-Some.ensures.found) c.as_slice-own.ensures.value) c.keep.ensures.items c.keep.ensures.room
+    read-goes c.args.text.now c.args.head.target c.args.head.count c.loop-at.bytes.items c.keep.new.bytes.items c.loop-at.bytes.room c.keep.new.bytes.room c.loop-at.at c.loop-at.line c.loop-at.done c.in-Some.len
+    c.as_slice-list.result.now c.loop-at.invariant (next _ _ _ _ _ _ _ (rw take_rest at c.in-Some.ensures.found) c.as_slice-list.ensures.value) c.keep.ensures.items c.keep.ensures.room
 
 pub returns-then-done-head : goal.returns-then-done-head
 returns-then-done-head c = read-ends c.args.text.now c.args.head.target c.args.head.count c.loop-at.bytes.items c.loop-at.bytes.room c.loop-at.at c.loop-at.line c.loop-at.done c.loop-at.invariant c.loop-at-test.false c.if-done-head.true
