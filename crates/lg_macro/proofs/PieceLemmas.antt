@@ -1,6 +1,8 @@
 -- Pieces as they are held.
 use Rattle.std.proofs.Common.{◌≡◌, ℕ, ◌+◌, ◌-◌, ◌<◌, ◌≤◌, List, [], ◌∷◌, ◌++◌, length, take, drop, get_or, map, refl, sym, ap, ap₂, ◌∙◌, arith, sum_by, length-append, length-drop, length-take}
+use lib.Seq.{paste}
 use Rattle.std.proofs.lemmas.List.{get_or-map, length-map, take-append-le, drop-append-le, take_all, map_push}
+use Rattle.std.proofs.lemmas.List.Edits.{take-paste}
 use Rattle.std.proofs.Math.Seq.{drop-append_seam}
 use Rattle.std.proofs.lemmas.List.Sums.{sum_by-cons, sum_by_push}
 use Rattle.std.proofs.lemmas.List.Elements.{All-head, All-tail, All-push}
@@ -64,3 +66,10 @@ bytes_of_pieces bytes parts pieces is all whole = rw (← is) (widths bytes part
 pub width_pushed : (bytes text new : List ℕ) (parts after : List Part) (part : Part) → sum_by width parts ≡ length bytes → new ≡ bytes ++ text → after ≡ parts ++ part ∷ [] → part.start ≡ length bytes → part.end ≡ length new → sum_by width after ≡ length new
 width_pushed bytes text new parts after part all more grown start end =
     ap (sum_by width) grown ∙ sum_by_push width parts part ∙ omega (arith, all, ap length more, length-append bytes text, start, end)
+
+-- items copied to the front, and as many kept
+pub copied_front : {X : Type 0} (n len : ℕ) (all copied kept : List X) → n ≤ len → length all ≡ len → copied ≡ paste all 0 (drop n all) (len - n) → kept ≡ take (len - n) copied → kept ≡ drop n all
+copied_front n len all copied kept h is more e =
+    let rest : length (drop n all) ≡ len - n = omega (arith, length-drop n all, is) in
+    let same : len - n ≡ 0 + (len - n) = omega arith in
+    e ∙ ap (take (len - n)) more ∙ ap (λ k. take k (paste all 0 (drop n all) (len - n))) same ∙ take-paste all 0 (drop n all) (len - n) (omega (arith, is)) (omega (arith, rest)) ∙ take_all (len - n) (drop n all) (omega (arith, rest))

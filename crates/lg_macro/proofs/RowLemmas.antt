@@ -1,6 +1,7 @@
 -- Parts whose ranges follow one another.
-use Rattle.std.proofs.Common.{◌≡◌, ℕ, zero, suc, ◌+◌, ◌-◌, ◌<◌, ◌≤◌, List, [], ◌∷◌, ◌++◌, length, take, drop, get_or, map, refl, sym, ap, ap₂, ◌∙◌, arith, sum_by, length-append, length-drop, length-take}
-use Rattle.std.proofs.lemmas.List.{get_or-drop, drop-drop, drop-take, take-take, map-append}
+use Rattle.std.proofs.Common.{◌≡◌, ℕ, zero, suc, ◌+◌, ◌-◌, ◌<◌, ◌≤◌, List, [], ◌∷◌, ◌++◌, length, take, drop, get_or, map, set, refl, sym, ap, ap₂, ◌∙◌, arith, sum_by, length-append, length-drop, length-take}
+use Rattle.std.proofs.lemmas.List.{get_or-drop, get_or_default, drop-drop, drop-take, take-take, map-append}
+use Rattle.std.proofs.lemmas.List.Edits.{map_over_more}
 use Rattle.std.proofs.Math.Seq.{drop-append-add}
 use Rattle.std.proofs.lemmas.List.Sums.{sum_by-cons}
 use Rattle.std.proofs.lemmas.List.Elements.{All-head, All-tail, All-cons}
@@ -173,3 +174,16 @@ added bytes text new other parts after others from end x y a i cut more grown =
           (joined ∙ sym (take-map (piece_of other) (end - from) (drop from others)) ∙ ap (take (end - from)) (sym (drop-map (piece_of other) from others)));
       are = rw grown (row_lies new 0 (length new) (parts ++ map (moved x.start base) sub) row (omega arith), row_is 0 (length new) (parts ++ map (moved x.start base) sub) row);
     }
+
+-- those between two places alone, their bytes at the front
+pub cut_to : (new other : List ℕ) (after others : List Part) (from end : ℕ) (x y : Part) → Inner other others from end x y → new ≡ take (y.end - x.start) (drop x.start other)
+    → after ≡ map (moved x.start 0) (take (end - from) (drop from others)) → Added [] new [] after other others from end
+cut_to new other after others from end x y i cut is =
+    added [] new new other [] after others from end x y ((λ k d lt. absurd (omega (arith, lt))), refl) i cut refl is
+
+-- one part more is moved to the front
+pub moved_one : (from i : ℕ) (old parts : List Part) (d one : Part) → i < length old → length parts ≡ length old → parts ≡ map (moved from 0) (take i old) ++ drop i old
+    → one ≡ moved from 0 (get_or parts i d) → set parts i one ≡ map (moved from 0) (take (i + 1) old) ++ drop (i + 1) old
+moved_one from i old parts d one lt len is e =
+    let here : i < length parts = omega (arith, lt, len) in
+    ap (set parts i) e ∙ map_over_more (moved from 0) old parts i (get_or parts i d) lt is (get_or_default parts i d (get_or parts i d) here)

@@ -127,30 +127,21 @@ pub(crate) fn solid_range(pieces: &Pieces, from: usize) -> (usize, usize)
     (from + white, from + len)
 }
 
-/// Pieces without the white space at their ends. They are not copied where none is there.
-pub fn without_ends(spare: &mut Spare, pieces: Pieces) -> Result<Pieces, OutOfMemory>
-    ensures { IfOk result (λ r. r ≡ stripped pieces) }
+/// Pieces without the white space at their ends, which is cut off in place.
+pub fn without_ends(pieces: Pieces) -> Pieces
+    ensures { result ≡ stripped pieces }
 {
+    let mut pieces = pieces;
     let (start, end) = solid_range(&pieces, 0);
-    if start == 0 && end == pieces.len() {
-        return Ok(pieces);
-    }
-    let mut solid = spare.take();
-    solid.append_between(&pieces, start, end)?;
-    spare.give(pieces);
-    Ok(solid)
+    pieces.cut_at(start, end);
+    pieces
 }
 
 // Adds an argument, without the white space at its ends.
-fn push_stripped(
-    done: &mut Vec<Pieces>,
-    spare: &mut Spare,
-    argument: Pieces,
-) -> Result<(), OutOfMemory>
+fn push_stripped(done: &mut Vec<Pieces>, argument: Pieces) -> Result<(), OutOfMemory>
     ensures { OnOk result (done.new.items ≡ done.old.items ++ stripped argument ∷ []) }
 {
-    let solid = without_ends(spare, argument)?;
-    done.push(solid)?;
+    done.push(without_ends(argument))?;
     Ok(())
 }
 
@@ -173,14 +164,14 @@ pub(crate) fn gathered(
     'pieces: for at in from..end {
         let kind = pieces.kind(at);
         if ends(kind, b',', depth) {
-            push_stripped(&mut done, spare, now)?;
+            push_stripped(&mut done, now)?;
             now = spare.take();
         } else {
             depth = depth_after(depth, kind);
             push_in(&mut now, pieces, at, line)?;
         }
     }
-    push_stripped(&mut done, spare, now)?;
+    push_stripped(&mut done, now)?;
     Ok(done)
 }
 

@@ -285,6 +285,64 @@ impl Pieces {
         push_moved(&mut self.parts, &others.parts[from..end], first, to, last);
         Ok(())
     }
+
+    /// Keeps those between two places. The memory of the others stays.
+    pub(crate) fn cut_at(&mut self, from: usize, end: usize)
+        requires order { from ≤ end }
+        requires inside { end ≤ length self.old }
+        ensures { self.new ≡ between from end self.old }
+    {
+        if from < end {
+            self.cut_some(from, end);
+        } else {
+            self.clear();
+        }
+    }
+
+    // Keeps those between two places, at least one.
+    fn cut_some(&mut self, from: usize, end: usize)
+        requires some { from < end }
+        requires inside { end ≤ length self.old }
+        ensures { self.new ≡ between from end self.old }
+    {
+        let first = self.parts[from].start;
+        let last = self.parts[end - 1].end;
+        cut(&mut self.bytes, first, last);
+        cut(&mut self.parts, from, end);
+        move_to_front(&mut self.parts, first, last);
+    }
+}
+
+// Keeps the items between two places.
+fn cut<T: Copy + Drop>(items: &mut Vec<T>, from: usize, end: usize)
+    requires order { from ≤ end }
+    requires inside { end ≤ vec_len items.old }
+    ensures { items.new.items ≡ take (end - from) (drop from items.old.items) }
+{
+    items.truncate(end);
+    if from > 0 {
+        drop_front(items, from);
+    }
+}
+
+// Drops the first items.
+fn drop_front<T: Copy + Drop>(items: &mut Vec<T>, n: usize)
+    requires { n ≤ vec_len items.old }
+    ensures { items.new.items ≡ drop n items.old.items }
+{
+    let len = items.len();
+    items.copy_within(n..len, 0);
+    items.truncate(len - n);
+}
+
+// Says that the bytes of parts, which lie between two places, were moved to the front.
+fn move_to_front(parts: &mut [Part], from: usize, end: usize)
+    requires { All (IsBetween from end) parts.old }
+    ensures { parts.new ≡ map (moved from 0) parts.old }
+{
+    for part in parts.iter_mut() {
+        *part = moved(*part, from, 0);
+    }
 }
 
 // Returns the bytes between two places.
@@ -296,6 +354,23 @@ fn text_in(bytes: &[u8], start: usize, end: usize) -> &[u8]
     &bytes[start..end]
 }
 
+// A part whose bytes were at one place, and are at another.
+fn moved(part: Part, from: usize, to: usize) -> Part
+    requires start { from ≤ part.start }
+    requires end { from ≤ part.end }
+    requires start_fits { part.start + to < 2 ^ 64 }
+    requires end_fits { part.end + to < 2 ^ 64 }
+    ensures { result ≡ moved from to part }
+{
+    Part {
+        kind: part.kind,
+        frozen: part.frozen,
+        line: part.line,
+        start: part.start - from + to,
+        end: part.end - from + to,
+    }
+}
+
 // Adds parts whose bytes were at one place, and are at another.
 fn push_moved(parts: &mut Vec<Part>, others: &[Part], from: usize, to: usize, end: usize)
     requires room { vec_len parts.old + length others.now ≤ vec_capacity parts.old }
@@ -304,12 +379,6 @@ fn push_moved(parts: &mut Vec<Part>, others: &[Part], from: usize, to: usize, en
     ensures { parts.new.items ≡ parts.old.items ++ map (moved from to) others.now }
 {
     for part in others {
-        parts.push_reserved(Part {
-            kind: part.kind,
-            frozen: part.frozen,
-            line: part.line,
-            start: part.start - from + to,
-            end: part.end - from + to,
-        });
+        parts.push_reserved(moved(*part, from, to));
     }
 }

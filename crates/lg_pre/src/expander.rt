@@ -310,7 +310,7 @@ fn body_between(
     ensures { IfOk result (λ r. r ≡ stripped (spliced (between from end text.now))) }
 {
     let body = spliced(spare, text, from, end)?;
-    without_ends(spare, body)
+    Ok(without_ends(body))
 }
 
 // Returns the pieces of the definition of `__WORDSIZE`.

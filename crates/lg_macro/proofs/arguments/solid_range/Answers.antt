@@ -1,4 +1,4 @@
-use Rattle.std.proofs.Common.{◌-◌, drop, ◌∙◌}
+use Rattle.std.proofs.Common.{drop, ◌∙◌}
 use Rattle.lg_macro.proofs.CallLemmas.{between_solid, between_from}
 use Rattle.lg_macro.proofs.arguments.solid_range.Goals as goal
 
