@@ -5,7 +5,7 @@ use Rattle.std.specs.List.{list_any}
 use Rattle.lg_lex.specs.Bytes.{further}
 use Rattle.lg_macro.specs.Arguments.{stripped, gathered}
 use Rattle.lg_macro.specs.Macros.{most}
-use Rattle.lg_macro.specs.Marks.{glue_last}
+use Rattle.lg_macro.specs.Marks.{glue_last, plain}
 use Rattle.lg_macro.specs.declared.body.Body.{Body}
 use Rattle.lg_macro.specs.declared.macros.Macro.{Macro}
 use Rattle.lg_macro.specs.Pieces.{Piece, piece_at, is_white, is_byte, is_feed, is_spaced, is_word}
@@ -70,9 +70,6 @@ parameters_of inside = parameters_in (gathered 0 0 [] [] inside)
 -- the body of a macro as far as it was read
 abbrev pub no_body : Body
 no_body = record { pieces = []; marks = []; gap = []; glued = false; half = false; good = true }
-
-abbrev pub plain : Mark
-plain = record { parameter = None; glued = false; glues = false }
 
 abbrev pub failed : Body → Body
 failed b = record b { good = false }

@@ -1,6 +1,10 @@
 -- The marks of a body.
-use Rattle.std.specs.Prelude.{◌-◌, true, List, [], ◌∷◌, ◌++◌, length, take, slice_get, Option, Some, None}
+use Rattle.std.specs.Prelude.{◌-◌, true, false, List, [], ◌∷◌, ◌++◌, length, take, slice_get, Option, Some, None}
 use Rattle.lg_macro.specs.declared.macros.Mark.{Mark}
+
+-- the mark of a piece that is no parameter and has no ## beside it
+abbrev pub plain : Mark
+plain = record { parameter = None; glued = false; glues = false }
 
 abbrev pub glued_after : List Mark → Option Mark → List Mark
 glued_after marks None = marks

@@ -1,7 +1,7 @@
 // The body of a macro, with the marks of its pieces.
 
 ghost use Rattle.std.specs.Prelude.{◌≡◌, ◌++◌, ◌∷◌, ◌<◌, ◌≤◌, [], length, fold, min, ◌+◌, IfOk, OnOk};
-ghost use Rattle.lg_macro.specs.Defines.{no_body, plain, with_plain, at_sign, at_white, at_solid, with_piece, body_of, parameter_by, place_of, with_len, size_of};
+ghost use Rattle.lg_macro.specs.Defines.{no_body, with_plain, at_sign, at_white, at_solid, with_piece, body_of, parameter_by, place_of, with_len, size_of};
 ghost use Rattle.lg_macro.specs.Macros.{most};
 ghost use Rattle.lg_macro.specs.Pieces.{piece_at, between};
 
