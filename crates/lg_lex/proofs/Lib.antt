@@ -10,6 +10,7 @@ pub mod FaultKindLemmas
 pub mod FrontLemmas
 pub mod LengthLemmas
 pub mod LineLemmas
+pub mod PlainLemmas
 pub mod ReaderLemmas
 pub mod SoundLemmas
 pub mod StringLemmas

@@ -74,3 +74,7 @@ token_at fresh bytes = let b = slice_index bytes 0 in
 -- what is at the front; fresh says that only spaces and tabs are before it in its line
 unfoldable pub front_at : Bool → List ℕ → Front
 front_at fresh bytes = if length bytes == 0 then Nothing else option_map_or Skips (blank_at bytes) (token_at fresh bytes)
+
+-- this is at the front, whatever is before it in its line
+abbrev pub IsFront : List ℕ → Front → Type 0
+IsFront bytes front = (fresh : Bool) → front_at fresh bytes ≡ front

@@ -20,6 +20,14 @@ pub fn behind(bytes: &[u8], n: usize) -> &[u8]
     bytes.split_at(n.min(bytes.len())).1
 }
 
+/// Returns the bytes from a place on, which is at most their end.
+pub(crate) fn from_place(bytes: &[u8], place: usize) -> &[u8]
+    requires { place ≤ length bytes.now }
+    ensures { result.now ≡ drop place bytes.now }
+{
+    bytes.split_at(place).1
+}
+
 /// Returns the first n bytes, all where there are fewer.
 pub fn ahead(bytes: &[u8], n: usize) -> &[u8]
     ensures { result.now ≡ take n bytes.now }
@@ -88,9 +96,9 @@ static GOES_ON: [bool; 256] = [
     false, false, false, false, false, false, false, false, false, false,
 ];
 
-// Returns whether a word may go on with a byte.
+/// Returns whether a word may go on with a byte.
 #[tactic(auto, using(crate::proofs::WordByteLemmas::goes_on))]
-fn goes_on(b: u8) -> bool
+pub(crate) fn goes_on(b: u8) -> bool
     ensures { result ≡ is_word_byte b }
 {
     GOES_ON[b as usize]

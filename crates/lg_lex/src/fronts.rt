@@ -1,15 +1,17 @@
 // What is at the front of a text.
 
-ghost use Rattle.std.specs.Prelude.{◌≡◌, ◌<◌, ◌≤◌, length, slice_index};
+ghost use Rattle.std.specs.Prelude.{◌≡◌, ◌<◌, ◌≤◌, true, length, slice_index, IfSome};
+ghost use Rattle.std.specs.Char.{is_ascii_digit};
 ghost use Rattle.lg_lex.specs.Escapes.{character_at, string_at};
 ghost use Rattle.lg_lex.specs.Numbers.{number_at};
-ghost use Rattle.lg_lex.specs.Fronts.{LiesWithin, word_len, word_at, marked_at, marker_at, literal_token, string_token, dollar_at, mark_at, token_at, front_at};
+ghost use Rattle.lg_lex.specs.Fronts.{LiesWithin, IsFront, word_len, word_at, marked_at, marker_at, literal_token, string_token, dollar_at, mark_at, token_at, front_at};
+ghost use Rattle.lg_lex.specs.Lines.{IsSolid};
 
 use crate::blanks::blank;
-use crate::bytes::{behind, byte_at, gap_len, line_len, word_byte_len};
+use crate::bytes::{behind, byte_at, gap_len, goes_on, line_len, word_byte_len};
 use crate::escapes::{character, string_len};
 use crate::expressions::expression;
-use crate::numbers::number;
+use crate::numbers::{decimal, number};
 use crate::token::TokenKind;
 use lg_base::RefusalKind;
 use lg_base::word_bytes::is_word_start;
@@ -185,5 +187,35 @@ pub(crate) fn front_of(bytes: &[u8], fresh: bool) -> Front
     match blank(bytes) {
         Some(n) => Front::Skips(n),
         None => token(bytes, fresh),
+    }
+}
+
+// Returns the number at the front if `decimal` finds it.
+fn plain_number(bytes: &[u8]) -> Option<Front>
+    requires { is_ascii_digit (slice_index bytes.now 0) ≡ true }
+    ensures value { IfSome result (IsFront bytes.now) }
+    ensures solid { IfSome result IsSolid }
+{
+    let found = decimal(bytes)?;
+    Some(Front::Finds(TokenKind::Number, found.len, found.value))
+}
+
+/// Returns what is at the front if it begins with a letter, `_` or `%` or is a plain decimal number, as most tokens do. `None` does not say what is there.
+#[inline(always)]
+pub(crate) fn plain_front(bytes: &[u8]) -> Option<Front>
+    ensures value { IfSome result (IsFront bytes.now) }
+    ensures solid { IfSome result IsSolid }
+{
+    let b = byte_at(bytes, 0);
+    if goes_on(b) {
+        if b.is_ascii_digit() {
+            plain_number(bytes)
+        } else {
+            Some(word(bytes))
+        }
+    } else if b == b'%' {
+        Some(marked(bytes, TokenKind::Register))
+    } else {
+        None
     }
 }

@@ -4,9 +4,9 @@ ghost use Rattle.std.specs.Prelude.{◌≡◌, ◌≤◌, length};
 ghost use Rattle.lg_lex.specs.Tokens.{Tokens, tokens_of, tokens_at, AreInOrder, IsPlace, Gives};
 ghost use Rattle.lg_lex.specs.ExpressionTokens.{ReadsExpressions};
 
-use crate::bytes::{ahead, behind, byte_at, is_space};
-use crate::fronts::{Front, front_of};
-use crate::place::{Place, first_place, pass_byte, pass_token, passed};
+use crate::bytes::{ahead, behind, byte_at, from_place, is_space};
+use crate::fronts::{Front, front_of, plain_front};
+use crate::place::{Place, first_place, pass_byte, pass_solid, pass_token, passed};
 use crate::token::Token;
 use lg_base::Refusal;
 use std::marker::Model;
@@ -28,6 +28,26 @@ impl<'a> Model for Lexer<'a> {
     ghost invariant = { λ l. IsPlace l.text.now l.place.offset l.place.line l.place.fresh };
 }
 
+// Moves past white space.
+#[inline(always)]
+fn pass_spaces(place: &mut Place, text: &[u8])
+    requires { IsPlace text.now place.old.offset place.old.line place.old.fresh }
+    ensures place { IsPlace text.now place.new.offset place.new.line place.new.fresh }
+    ensures tokens { tokens_at text.now place.new.offset ≡ tokens_at text.now place.old.offset }
+{
+    'spaces: loop {
+        let b = byte_at(text, place.offset);
+        if b == b' ' {
+            pass_byte(place, b);
+            continue 'spaces;
+        }
+        if !is_space(b) {
+            return;
+        }
+        pass_byte(place, b);
+    }
+}
+
 impl<'a> Lexer<'a> {
     /// Returns a reader of the tokens of a text of at most 16,777,216 bytes.
     pub fn new(text: &'a [u8]) -> Self
@@ -45,7 +65,38 @@ impl<'a> Lexer<'a> {
 
     /// The next token, None exactly at the end of the text, or the first fault of the text, of the kind `BadToken` or
     /// `BadExpr`, with its line. After a fault each further call answers the same fault.
+    #[inline(always)]
     pub fn next(&mut self) -> Result<Option<Token>, Refusal>
+        ensures { Gives self.old result self.new }
+    {
+        pass_spaces(&mut self.place, self.text);
+        let bytes = from_place(self.text, self.place.offset);
+        match plain_front(bytes) {
+            Some(Front::Finds(kind, n, value)) => {
+                let Place {
+                    offset,
+                    line,
+                    fresh: _,
+                } = self.place;
+                pass_solid(&mut self.place, n);
+                Ok(Some(Token {
+                    kind,
+                    line,
+                    start: offset as u32,
+                    end: self.place.offset as u32,
+                    value,
+                }))
+            }
+            _ => {
+                let next = self.any_token()?;
+                Ok(next)
+            }
+        }
+    }
+
+    // The next token, whatever is at the place.
+    #[inline(never)]
+    fn any_token(&mut self) -> Result<Option<Token>, Refusal>
         ensures { Gives self.old result self.new }
     {
         'pieces: loop {

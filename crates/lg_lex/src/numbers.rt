@@ -1,10 +1,11 @@
 // Numbers with a prefix, a suffix and a sign.
 
-ghost use Rattle.std.specs.Prelude.{◌≡◌, ◌+◌, ◌<◌, ◌≤◌, ◌^◌, length, IfSome};
-ghost use Rattle.std.specs.Char.{digit_value};
+ghost use Rattle.std.specs.Prelude.{◌≡◌, ◌+◌, ◌<◌, ◌≤◌, ◌^◌, true, false, length, slice_index, IfSome, Some};
+ghost use Rattle.std.specs.Char.{digit_value, is_ascii_digit};
+ghost use Rattle.lg_base.specs.WordBytes.{is_word_byte};
 ghost use Rattle.lg_lex.specs.Numbers.{with_digit, digits_value, narrowed, digits_at, magnitude_at, suffix_at, unsigned_at, negated, number_at};
 
-use crate::bytes::{ahead, behind, byte_at, digit_len, suffix_letter_len};
+use crate::bytes::{ahead, behind, byte_at, digit_len, goes_on, suffix_letter_len};
 
 /// A number, character or expression at the front of a text: how many bytes it takes, and its value as a word.
 #[derive(Clone, Copy)]
@@ -135,4 +136,37 @@ pub(crate) fn number(bytes: &[u8]) -> Option<Literal>
         }
         _ => unsigned(bytes),
     }
+}
+
+// Returns a number of digits alone that ends before a byte, or `None` if the byte may belong to it.
+fn ended(len: usize, value: u64, b: u8) -> Option<Literal>
+    ensures { IfSome result (λ found. (found ≡ record { len = len; value = value }) × (is_word_byte b ≡ false)) }
+{
+    if goes_on(b) {
+        None
+    } else {
+        Some(Literal { len, value })
+    }
+}
+
+/// Returns the number at the front if it is decimal, without a sign or a suffix. `None` does not say that there is none: it is also returned for a number
+/// that begins with 0, ends the text, or has a digit after a value above 2^60.
+pub(crate) fn decimal(bytes: &[u8]) -> Option<Literal>
+    requires { is_ascii_digit (slice_index bytes.now 0) ≡ true }
+    ensures value { IfSome result (λ found. number_at bytes.now ≡ Some found) }
+{
+    if byte_at(bytes, 0) == b'0' {
+        return None;
+    }
+    let mut value = 0u64;
+    for (i, b) in bytes.iter().enumerate() {
+        if !b.is_ascii_digit() {
+            return ended(i, value, *b);
+        }
+        if value > 1 << 60 {
+            return None;
+        }
+        value = value * 10 + u64::from(*b - b'0');
+    }
+    None
 }

@@ -1,6 +1,6 @@
 // A place of a text, in its line.
 
-ghost use Rattle.std.specs.Prelude.{◌≡◌, ◌+◌, ◌<◌, ◌^◌, ◌==◌, true, length, count_by, fold, if◌then◌else◌};
+ghost use Rattle.std.specs.Prelude.{◌≡◌, ◌+◌, ◌<◌, ◌^◌, ◌==◌, true, false, length, count_by, fold, if◌then◌else◌};
 ghost use Rattle.lg_lex.specs.Lines.{is_solid_kind, StaysInLine};
 ghost use Rattle.lg_lex.specs.Tokens.{with_byte};
 
@@ -80,6 +80,18 @@ pub(crate) fn pass_token(place: &mut Place, kind: TokenKind, bytes: &[u8])
     } else {
         *place = passed(*place, bytes);
     }
+}
+
+/// Moves past bytes that stay in their line. No byte is looked at.
+#[inline(always)]
+pub(crate) fn pass_solid(place: &mut Place, n: usize)
+    requires { place.old.offset + n < 2 ^ 32 }
+    ensures offset { place.new.offset ≡ place.old.offset + n }
+    ensures line { place.new.line ≡ place.old.line }
+    ensures fresh { place.new.fresh ≡ false }
+{
+    place.offset += n;
+    place.fresh = false;
 }
 
 /// Moves past one byte. A space leaves the line and what is in it as they are.

@@ -1,64 +1,49 @@
-use Rattle.std.proofs.Common.{◌≡◌, true, drop, refl, sym, ap, subst, ◌∙◌}
-use Rattle.std.specs.Prelude.{slice_index}
-use Rattle.lg_lex.specs.Bytes.{is_space}
+use Rattle.std.proofs.Common.{length, sym, ap, subst, ◌∙◌, arith}
+use Rattle.std.proofs.lemmas.List.{length-drop}
 use Rattle.lg_lex.specs.declared.fronts.Front.TheVariants.{Finds}
-use Rattle.lg_lex.specs.Fronts.{front_at}
-use Rattle.lg_lex.specs.Lines.{StaysInLine}
-use Rattle.lg_lex.specs.Tokens.{tokens_at}
-use Rattle.lg_lex.proofs.LineLemmas.{FrontStays, front_stays}
-use Rattle.lg_lex.proofs.TokenLemmas.{byte_after, place_after, place_after_byte, one_space, piece_end, gives_end, gives_fault, skipped, space_skipped, gives_token}
+use Rattle.lg_lex.specs.Fronts.{IsFront, front_at}
+use Rattle.lg_lex.specs.Lines.{IsSolid}
+use Rattle.lg_lex.proofs.PlainLemmas.{front_lies, front_solid, place_after_solid}
+use Rattle.lg_lex.proofs.TokenLemmas.{gives_token}
 use Rattle.lg_lex.proofs.lexer.Lexer.next.Goals as goal
 
-pub returns-in-Nothing : goal.returns-in-Nothing
-returns-in-Nothing c =
-    let place = c.pieces.self-inside.place in
-    let is = ap (front_at place.fresh) (sym c.behind-bytes.ensures) ∙ sym c.front_of.ensures.value ∙ c.in-Nothing.is in
-    gives_end _ place.offset place.line place.fresh c.pieces.invariant.0 _ c.pieces.invariant.1 is
+pub pass_solid-requires : goal.pass_solid-requires
+pass_solid-requires c =
+    let bytes = c.from_place-bytes.result.now in
+    let found = c.in-Some-Finds in
+    let is : IsFront bytes (Finds found.kind found.n found.value) = λ fresh. found.ensures.value fresh ∙ found.field-0-is in
+    let inside = front_lies bytes _ is in
+    let at = c.pass_spaces.ensures.place in
+    let left = ap length c.from_place-bytes.ensures ∙ length-drop c.pass_spaces.new.place.offset c.self.inside.text.now in
+    omega (arith, at.0, at.1, inside.1, left)
 
-pub pieces-preserved-then-is_space : goal.pieces-preserved-then-is_space
-pieces-preserved-then-is_space c =
-    let text = c.pieces.self-inside.text.now in
-    let place = c.pieces.self-inside.place in
-    let passed = c.pass_byte.ensures in
-    let here : c.byte_at-b.result ≡ slice_index (drop place.offset text) 0 = c.byte_at-b.ensures ∙ byte_after text place.offset in
-    let space : is_space (slice_index (drop place.offset text) 0) ≡ true = ap is_space (sym here) ∙ sym c.is_space.ensures ∙ c.if-is_space.true in (
-      place_after_byte text place.offset place.line c.byte_at-b.result _ _ place.fresh _ (drop place.offset text) c.pieces.invariant.0 refl here (one_space _ space).1 passed.offset passed.line passed.fresh,
-      ap (tokens_at text) passed.offset ∙ space_skipped text place.offset space ∙ c.pieces.invariant.1,
-    )
+pub overflow_cast-result-in-Some-Finds : goal.overflow_cast-result-in-Some-Finds
+overflow_cast-result-in-Some-Finds c =
+    let bytes = c.from_place-bytes.result.now in
+    let found = c.in-Some-Finds in
+    let is : IsFront bytes (Finds found.kind found.n found.value) = λ fresh. found.ensures.value fresh ∙ found.field-0-is in
+    let inside = front_lies bytes _ is in
+    let at = c.pass_spaces.ensures.place in
+    let left = ap length c.from_place-bytes.ensures ∙ length-drop c.pass_spaces.new.place.offset c.self.inside.text.now in
+    omega (arith, c.pass_solid.ensures.offset, at.0, at.1, inside.1, left)
 
-pub pass_token-requires-clause-stays : goal.pass_token-requires-clause-stays
-pass_token-requires-clause-stays c word =
-    let place = c.pieces.self-inside.place in
-    let bytes = c.behind-bytes.result.now in
-    let is = sym c.front_of.ensures.value ∙ c.in-Finds.is in
-    let stays : FrontStays bytes (Finds c.in-Finds.kind c.in-Finds.n c.in-Finds.value) = subst (FrontStays bytes) is (front_stays place.fresh bytes) in
-    subst StaysInLine (sym c.ahead-in-Finds.ensures) (stays word)
+pub invariant_of-self : goal.invariant_of-self
+invariant_of-self c =
+    let place = c.pass_spaces.new.place in
+    let bytes = c.from_place-bytes.result.now in
+    let found = c.in-Some-Finds in
+    let passed = c.pass_solid.ensures in
+    let is : IsFront bytes (Finds found.kind found.n found.value) = λ fresh. found.ensures.value fresh ∙ found.field-0-is in
+    let inside = front_lies bytes _ is in
+    let stays = front_solid bytes (Finds found.kind found.n found.value) is (subst IsSolid found.field-0-is found.ensures.solid) in
+    place_after_solid _ place.offset place.line found.n _ _ place.fresh _ bytes c.pass_spaces.ensures.place c.from_place-bytes.ensures inside.1 stays passed.offset passed.line passed.fresh
 
-pub pieces-preserved : goal.pieces-preserved
-pieces-preserved c =
-    let place = c.pieces.self-inside.place in
-    let passed = c.passed-self-inside.ensures in
-    let inside = c.in-Skips.ensures.inside in
-    let is = ap (front_at place.fresh) (sym c.behind-bytes.ensures) ∙ sym c.front_of.ensures.value ∙ c.in-Skips.is in (
-      place_after _ place.offset place.line c.in-Skips.n _ _ place.fresh _ _ _ c.pieces.invariant.0 c.behind-bytes.ensures c.ahead.ensures inside.1 passed.offset passed.line passed.fresh,
-      skipped _ place.offset place.line place.fresh c.pieces.invariant.0 _ c.pieces.invariant.1 c.in-Skips.n _ inside.0 (piece_end place.offset _ c.in-Skips.n _ _ c.ahead.ensures inside.1 passed.offset) is,
-    )
-
-pub invariant_of-self-in-Finds : goal.invariant_of-self-in-Finds
-invariant_of-self-in-Finds c =
-    let place = c.pieces.self-inside.place in
-    let passed = c.pass_token.ensures in
-    place_after _ place.offset place.line c.in-Finds.n _ _ place.fresh _ _ _ c.pieces.invariant.0 c.behind-bytes.ensures c.ahead-in-Finds.ensures c.in-Finds.ensures.inside.1 passed.offset passed.line passed.fresh
-
-pub returns-in-Finds : goal.returns-in-Finds
-returns-in-Finds c =
-    let place = c.pieces.self-inside.place in
-    let inside = c.in-Finds.ensures.inside in
-    let is = ap (front_at place.fresh) (sym c.behind-bytes.ensures) ∙ sym c.front_of.ensures.value ∙ c.in-Finds.is in
-    gives_token _ place.offset place.line place.fresh c.pieces.invariant.0 _ c.pieces.invariant.1 c.in-Finds.kind c.in-Finds.n c.in-Finds.value _ inside.0 (piece_end place.offset _ c.in-Finds.n _ _ c.ahead-in-Finds.ensures inside.1 c.pass_token.ensures.offset) is
-
-pub returns-in-Fails : goal.returns-in-Fails
-returns-in-Fails c =
-    let place = c.pieces.self-inside.place in
-    let is = ap (front_at place.fresh) (sym c.behind-bytes.ensures) ∙ sym c.front_of.ensures.value ∙ c.in-Fails.is in
-    gives_fault _ place.offset place.line place.fresh c.pieces.invariant.0 _ c.pieces.invariant.1 c.in-Fails.kind is
+pub returns-in-Some-Finds : goal.returns-in-Some-Finds
+returns-in-Some-Finds c =
+    let place = c.pass_spaces.new.place in
+    let bytes = c.from_place-bytes.result.now in
+    let found = c.in-Some-Finds in
+    let is : IsFront bytes (Finds found.kind found.n found.value) = λ fresh. found.ensures.value fresh ∙ found.field-0-is in
+    let inside = front_lies bytes _ is in
+    let front = ap (front_at place.fresh) (sym c.from_place-bytes.ensures) ∙ is place.fresh in
+    gives_token _ place.offset place.line place.fresh c.pass_spaces.ensures.place _ (c.pass_spaces.ensures.tokens ∙ c.self.view_is) found.kind found.n found.value _ inside.0 c.pass_solid.ensures.offset front

@@ -1,7 +1,7 @@
 -- What was skipped so far has left the tokens as they were.
 use Rattle.std.proofs.Common.{◌≡◌, ◌-◌, length}
 use Rattle.lg_lex.specs.Tokens.{tokens_at, IsPlace}
-use Rattle.lg_lex.proofs.lexer.Lexer.next.Given as goal
+use Rattle.lg_lex.proofs.lexer.Lexer.any_token.Given as goal
 
 abbrev pub invariant-pieces : goal.invariant-pieces
 invariant-pieces l =
