@@ -7,6 +7,7 @@ is much code of few instructions on RV64, is read back by `--mode back`. Not par
     plain     instructions, in which no macro is named
     calls     calls of a macro with two parameters, whose body names another
     macros    macros, each in a line of its own, after which it is named
+    adds      a function of as many additions of 1 to a register
     far       a function with a branch over as many additions of a wide number, and two calls of it after them
     swaps     as many instructions that turn the bytes of a word
     short     a loop without an end of four instructions
@@ -51,6 +52,7 @@ KINDS = {
     "plain": lambda size: repeated(REFUSED, "addi %r0 %r1 12345\n", size),
     "calls": lambda size: repeated(REFUSED + MACROS, "ADD(%r1, 12345)\n", size),
     "macros": macros,
+    "adds": lambda lines: "prolog\n" + "addi %r0 %r0 1\n" * lines + "ret epilog\n",
     "far": lambda lines: FAR.format("addi %v0 %v0 99999\n" * lines),
     "swaps": lambda lines: "prolog arg $a getarg %r0 $a\n" + "htonr_ul %r0 %r0\n" * lines + "retr %r0 epilog\n",
     "short": lambda _: SHORT,
