@@ -1,6 +1,6 @@
 -- Bytes that digits spell, by numbers that are 2^32 or more where a digit is none.
 use Rattle.std.proofs.Common.{◌≡◌, ℕ, ◌+◌, ◌*◌, ◌/◌, ◌%◌, ◌^◌, ◌<◌, ◌≤◌, List, [], ◌∷◌, ◌++◌, length, drop, get_or, Some, None, sym, ap, ap₂, ◌∙◌, arith, ⊎_elim}
-use Rattle.std.specs.Int.{w32, to_be_bytes}
+use Rattle.std.specs.Int.{w32, to_le_bytes}
 use Rattle.std.specs.Option.{option_map}
 use Rattle.std.proofs.Math.Nat.{lt_of_not-le}
 use Rattle.std.proofs.lemmas.Bool.Decides.{leb_tells}
@@ -44,17 +44,17 @@ pair-below : (a b v : ℕ) → IsPair a b v → v < 4294967296 → v < 256
 pair-below a b v p lt = lt_of_not-le (λ le. omega (arith, p.far le, lt))
 
 -- the bytes of a word of four
-word-bytes : (p q r s : ℕ) → p < 256 → q < 256 → r < 256 → s < 256 → to_be_bytes w32 (((p * 256 + q) * 256 + r) * 256 + s) ≡ p ∷ q ∷ r ∷ s ∷ []
+word-bytes : (p q r s : ℕ) → p < 256 → q < 256 → r < 256 → s < 256 → to_le_bytes w32 (((s * 256 + r) * 256 + q) * 256 + p) ≡ p ∷ q ∷ r ∷ s ∷ []
 word-bytes p q r s pl ql rl sl =
-    let n = ((p * 256 + q) * 256 + r) * 256 + s in
-    let first : n / 16777216 % 256 ≡ p = omega arith in
-    let second : n / 65536 % 256 ≡ q = omega arith in
-    let third : n / 256 % 256 ≡ r = omega arith in
-    let fourth : n % 256 ≡ s = omega arith in
-    ap₂ (λ x y. x ∷ y ∷ n / 256 % 256 ∷ n % 256 ∷ []) first second ∙ ap₂ (λ x y. p ∷ q ∷ x ∷ y ∷ []) third fourth
+    let n = ((s * 256 + r) * 256 + q) * 256 + p in
+    let first : n % 256 ≡ p = omega arith in
+    let second : n / 256 % 256 ≡ q = omega arith in
+    let third : n / 65536 % 256 ≡ r = omega arith in
+    let fourth : n / 16777216 % 256 ≡ s = omega arith in
+    ap₂ (λ x y. x ∷ y ∷ n / 65536 % 256 ∷ n / 16777216 % 256 ∷ []) first second ∙ ap₂ (λ x y. p ∷ q ∷ x ∷ y ∷ []) third fourth
 
-four-is : (a b c d e f g h : ℕ) (rest : List ℕ) (p q r s : ℕ) → IsPair a b p → IsPair c d q → IsPair e f r → IsPair g h s → ((p * 256 + q) * 256 + r) * 256 + s < 4294967296
-    → hex_front (a ∷ b ∷ c ∷ d ∷ e ∷ f ∷ g ∷ h ∷ rest) ≡ to_be_bytes w32 (((p * 256 + q) * 256 + r) * 256 + s) ++ hex_front rest
+four-is : (a b c d e f g h : ℕ) (rest : List ℕ) (p q r s : ℕ) → IsPair a b p → IsPair c d q → IsPair e f r → IsPair g h s → ((s * 256 + r) * 256 + q) * 256 + p < 4294967296
+    → hex_front (a ∷ b ∷ c ∷ d ∷ e ∷ f ∷ g ∷ h ∷ rest) ≡ to_le_bytes w32 (((s * 256 + r) * 256 + q) * 256 + p) ++ hex_front rest
 four-is a b c d e f g h rest p q r s i j k l lt =
     let pl = pair-below a b p i (omega (arith, lt)) in
     let ql = pair-below c d q j (omega (arith, lt)) in
@@ -65,8 +65,8 @@ four-is a b c d e f g h rest p q r s i j k l lt =
 
 -- the bytes that a text begins with where its first eight digits spell four
 pub front-is : (text : List ℕ) (p q r s : ℕ) → 8 ≤ length text → IsPair (get_or text 0 0) (get_or text 1 0) p → IsPair (get_or text 2 0) (get_or text 3 0) q
-    → IsPair (get_or text 4 0) (get_or text 5 0) r → IsPair (get_or text 6 0) (get_or text 7 0) s → ((p * 256 + q) * 256 + r) * 256 + s < 4294967296
-    → hex_front text ≡ to_be_bytes w32 (((p * 256 + q) * 256 + r) * 256 + s) ++ hex_front (drop 8 text)
+    → IsPair (get_or text 4 0) (get_or text 5 0) r → IsPair (get_or text 6 0) (get_or text 7 0) s → ((s * 256 + r) * 256 + q) * 256 + p < 4294967296
+    → hex_front text ≡ to_le_bytes w32 (((s * 256 + r) * 256 + q) * 256 + p) ++ hex_front (drop 8 text)
 front-is [] p q r s le i j k l lt = absurd (omega (arith, le))
 front-is (a ∷ []) p q r s le i j k l lt = absurd (omega (arith, le))
 front-is (a ∷ b ∷ []) p q r s le i j k l lt = absurd (omega (arith, le))

@@ -61,7 +61,7 @@ pub fn read_decimal(text: &[u8]) -> Option<u32>
     }
 }
 
-// More than eight hexadecimal digits spell.
+// The value of a byte that is no digit: more than any number of eight hexadecimal digits.
 const NONE: u64 = 0x1_0000_0000;
 
 // Of each byte the value of the lower hexadecimal digit that it is, or `NONE`.
@@ -95,7 +95,7 @@ fn digit(code: u8) -> u64
     VALUES[code as usize]
 }
 
-// Returns the byte that two lower hexadecimal digits spell, or more than eight digits spell where one is none.
+// Returns the byte that two lower hexadecimal digits spell, or at least `NONE` where one of them is no digit.
 #[inline(always)]
 fn pair(high: u8, low: u8) -> u64
     ensures some { result < 256 → byte_value high low ≡ Some result }
@@ -135,16 +135,18 @@ fn push_hex(text: &[u8], bytes: &mut LineBytes) -> bool
     }
 }
 
-// Puts the first of the bytes that a text begins with, two digits each, in the place of those that there are: four, as most instructions have, or none where
-// fewer are in front. Returns the text after them.
+// Replaces the bytes by the first of those that a text begins with, two digits each: four, as most instructions have, or none if the text begins with fewer.
+// Returns the text after them.
 #[inline(always)]
 fn read_four<'a>(text: &'a [u8], bytes: &mut LineBytes) -> &'a [u8]
     ensures { hex_front text.now ≡ bytes.new ++ hex_front result.now }
 {
     if let [a, b, c, d, e, f, g, h, rest @ ..] = text {
-        let word = ((pair(*a, *b) * 256 + pair(*c, *d)) * 256 + pair(*e, *f)) * 256 + pair(*g, *h);
+        let (first, second) = (pair(*a, *b), pair(*c, *d));
+        let (third, fourth) = (pair(*e, *f), pair(*g, *h));
+        let word = ((fourth * 256 + third) * 256 + second) * 256 + first;
         if word < NONE {
-            bytes.set(&(word as u32).to_be_bytes());
+            bytes.set(&(word as u32).to_le_bytes());
             return rest;
         }
     }
@@ -152,8 +154,7 @@ fn read_four<'a>(text: &'a [u8], bytes: &mut LineBytes) -> &'a [u8]
     text
 }
 
-/// Puts the bytes that a text begins with, two lower hexadecimal digits each, as far as there are any, in the place of those that there are. False exactly when
-/// there are more than 16.
+/// Replaces the bytes by those that a text begins with, two lower hexadecimal digits each, as far as there are any. False exactly when there are more than 16.
 pub fn read_hex(text: &[u8], bytes: &mut LineBytes) -> bool
     ensures all { result ≡ true → bytes.new ≡ hex_front text.now }
     ensures over { result ≡ false → 16 < length (hex_front text.now) }

@@ -83,9 +83,8 @@ fn read_label(at: u32, text: &[u8], line: &mut Line) -> Option<usize>
     }
 }
 
-/// Returns the length of the line after the first of a listing for a target that a text begins with, at an address, its line feed included. The bytes that it
-/// denotes, none but of an instruction, are put in the place of those that are given. Lines to compare with are written into one that is given; what it has is
-/// not looked at.
+/// Returns the length of the line that a text begins with, its line feed included: one after the first of a listing for a target, at an address. The bytes are
+/// replaced by those that the line denotes, none but of an instruction. Lines to compare with are written into one that is given; what it has is not looked at.
 pub fn read_entry(
     target: Target,
     at: u32,

@@ -13,7 +13,7 @@ use lg_base::Target;
 use lg_list::Line;
 use lg_list::instruction::decode;
 
-/// Returns the length of the line of an instruction at an address that a text begins with, and puts its bytes in the place of those that are given. The line to
+/// Returns the length of the line of an instruction at an address that a text begins with, and replaces the bytes by those of the instruction. The line to
 /// compare with is written into one that is given; what it has is not looked at.
 pub fn read_instruction(
     target: Target,

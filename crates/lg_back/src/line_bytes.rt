@@ -4,7 +4,7 @@ ghost use Rattle.std.specs.Prelude.{◌≡◌, ◌<◌, ◌≤◌, ◌+◌, ℕ,
 
 use std::marker::Model;
 
-/// The bytes that a line denotes, at most 16, held inline. The same place serves one line after another.
+/// The bytes that a line denotes, at most 16, held inline, so that the same place holds those of one line after another.
 #[derive(Drop)]
 pub struct LineBytes {
     bytes: [u8; 16],
@@ -37,7 +37,7 @@ impl LineBytes {
         self.len = 0;
     }
 
-    /// Puts bytes (at most 16) in the place of those that there are.
+    /// Replaces the bytes by others (at most 16).
     #[inline(always)]
     pub fn set(&mut self, list: &[u8])
         requires { length list.now ≤ 16 }

@@ -1,9 +1,8 @@
 -- The table of hexadecimal digits.
-use Rattle.std.proofs.Common.{◌≡◌, ℕ, zero, suc, ◌+◌, ◌*◌, ◌/◌, ◌%◌, ◌<◌, Bool, true, false, ◌&&◌, ◌==◌, List, [], ◌∷◌, length, get_or, take, drop, refl, sym, ap, ap₂, ◌∙◌, arith}
+use Rattle.std.proofs.Common.{◌≡◌, ℕ, zero, suc, ◌+◌, ◌*◌, ◌/◌, ◌%◌, ◌<◌, Bool, true, false, ◌&&◌, ◌==◌, List, [], ◌∷◌, length, get_or, refl, ap, ◌∙◌, arith}
 use Rattle.std.proofs.lemmas.Bool.{and_parts, false≢true}
 use Rattle.std.proofs.lemmas.Bool.Decides.{nat_tests}
 use Rattle.std.specs.Fmt.{digit_glyph}
-use Rattle.lg_list.specs.Texts.{hex}
 use Rattle.lg_list.specs.declared.line.TheConstants.{PAIRS}
 
 -- a table from a byte on
@@ -33,20 +32,8 @@ agrees_at n (x ∷ y ∷ xs) (suc k) e h =
     let rest = agrees_at (n + 1) xs k more.1 (omega (arith, h)) in
     (ap (λ i. get_or (x ∷ y ∷ xs) i 0) two ∙ rest.0 ∙ ap (λ m. digit_glyph false (m / 16)) at, ap (λ i. get_or (x ∷ y ∷ xs) i 0) three ∙ rest.1 ∙ ap (λ m. digit_glyph false (m % 16)) at)
 
-high : (b : ℕ) → b < 256 → get_or PAIRS (2 * b) 0 ≡ digit_glyph false (b / 16)
-high b h = (agrees_at 0 PAIRS b refl (omega (arith, h))).0 ∙ (let at : 0 + b ≡ b = omega arith in ap (λ m. digit_glyph false (m / 16)) at)
+pub pair-high : (b : ℕ) → b < 256 → get_or PAIRS (2 * b) 0 ≡ digit_glyph false (b / 16)
+pair-high b h = (agrees_at 0 PAIRS b refl (omega (arith, h))).0 ∙ (let at : 0 + b ≡ b = omega arith in ap (λ m. digit_glyph false (m / 16)) at)
 
-low : (b : ℕ) → b < 256 → get_or PAIRS (2 * b + 1) 0 ≡ digit_glyph false (b % 16)
-low b h = (agrees_at 0 PAIRS b refl (omega (arith, h))).1 ∙ (let at : 0 + b ≡ b = omega arith in ap (λ m. digit_glyph false (m % 16)) at)
-
-two_at : (xs : List ℕ) (i : ℕ) → i + 1 < length xs → take 2 (drop i xs) ≡ get_or xs i 0 ∷ get_or xs (i + 1) 0 ∷ []
-two_at [] i h = absurd (omega arith)
-two_at (x ∷ []) i h = absurd (omega (arith, h))
-two_at (x ∷ y ∷ xs) zero h = refl
-two_at (x ∷ y ∷ xs) (suc i) h =
-    let on : suc i + 1 ≡ suc (i + 1) = omega arith in
-    two_at (y ∷ xs) i (omega (arith, h)) ∙ ap (λ j. get_or (y ∷ xs) i 0 ∷ get_or (x ∷ y ∷ xs) j 0 ∷ []) (sym on)
-
--- the two digits of a byte are those of the table
-pub pair-is : (b k : ℕ) → b < 256 → k ≡ 2 → take k (drop (2 * b) PAIRS) ≡ hex (b ∷ [])
-pair-is b k h two = ap (λ n. take n (drop (2 * b) PAIRS)) two ∙ two_at PAIRS (2 * b) (omega (arith, h)) ∙ ap₂ (λ x y. x ∷ y ∷ []) (high b h) (low b h)
+pub pair-low : (b : ℕ) → b < 256 → get_or PAIRS (2 * b + 1) 0 ≡ digit_glyph false (b % 16)
+pair-low b h = (agrees_at 0 PAIRS b refl (omega (arith, h))).1 ∙ (let at : 0 + b ≡ b = omega arith in ap (λ m. digit_glyph false (m % 16)) at)

@@ -7,10 +7,10 @@ use Rattle.lg_back.proofs.digits.read_four.Goals as goal
 pub returns-then-word-lt-NONE : goal.returns-then-word-lt-NONE
 returns-then-word-lt-NONE c =
     let text = c.args.text.now in
-    let front = front-is text c.pair.result c.pair-in-len8-up.result c.pair-in-len8-up-2.result c.pair-in-len8-up-3.result c.in-len8-up.len_at_least
-    (record { some = c.pair.ensures.some; none = c.pair.ensures.none; far = c.pair.ensures.far })
-    (record { some = c.pair-in-len8-up.ensures.some; none = c.pair-in-len8-up.ensures.none; far = c.pair-in-len8-up.ensures.far })
-    (record { some = c.pair-in-len8-up-2.ensures.some; none = c.pair-in-len8-up-2.ensures.none; far = c.pair-in-len8-up-2.ensures.far })
-    (record { some = c.pair-in-len8-up-3.ensures.some; none = c.pair-in-len8-up-3.ensures.none; far = c.pair-in-len8-up-3.ensures.far })
+    let front = front-is text c.pair-first.result c.pair-second.result c.pair-third.result c.pair-fourth.result c.in-len8-up.len_at_least
+    (record { some = c.pair-first.ensures.some; none = c.pair-first.ensures.none; far = c.pair-first.ensures.far })
+    (record { some = c.pair-second.ensures.some; none = c.pair-second.ensures.none; far = c.pair-second.ensures.far })
+    (record { some = c.pair-third.ensures.some; none = c.pair-third.ensures.none; far = c.pair-third.ensures.far })
+    (record { some = c.pair-fourth.ensures.some; none = c.pair-fourth.ensures.none; far = c.pair-fourth.ensures.far })
     c.if-word-lt-NONE.true in
-    rw take_rest (front ∙ ap (λ b. b ++ hex_front (drop 8 text)) (sym (c.set.ensures ∙ c.to_be_bytes.ensures)))
+    rw take_rest (front ∙ ap (λ b. b ++ hex_front (drop 8 text)) (sym (c.set.ensures ∙ c.to_le_bytes.ensures)))
