@@ -187,3 +187,16 @@ pub moved_one : (from i : ℕ) (old parts : List Part) (d one : Part) → i < le
 moved_one from i old parts d one lt len is e =
     let here : i < length parts = omega (arith, lt, len) in
     ap (set parts i) e ∙ map_over_more (moved from 0) old parts i (get_or parts i d) lt is (get_or_default parts i d (get_or parts i d) here)
+
+unmoved : (p : Part) → p ≡ moved 0 0 p
+unmoved p =
+    let start : p.start ≡ p.start - 0 + 0 = omega arith in
+    let end : p.end ≡ p.end - 0 + 0 = omega arith in
+    ap₂ (λ (a b : ℕ). record { kind = p.kind; frozen = p.frozen; line = p.line; start = a; end = b }) start end
+
+-- parts that are at the front are not moved
+pub all_unmoved : (from : ℕ) (parts : List Part) → from ≡ 0 → parts ≡ map (moved from 0) parts
+all_unmoved from [] none = refl
+all_unmoved from (p ∷ parts) none =
+    let one : p ≡ moved from 0 p = rw none (unmoved p) in
+    ap₂ (λ (q : Part) (qs : List Part). q ∷ qs) one (all_unmoved from parts none)

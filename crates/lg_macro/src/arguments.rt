@@ -127,14 +127,22 @@ pub(crate) fn solid_range(pieces: &Pieces, from: usize) -> (usize, usize)
     (from + white, from + len)
 }
 
+/// The pieces from a place on, at most their number, without the white space at their ends. All others are cut off in place.
+pub fn stripped_from(pieces: Pieces, from: usize) -> Pieces
+    requires { from ≤ length pieces }
+    ensures { result ≡ stripped (drop from pieces) }
+{
+    let mut pieces = pieces;
+    let (start, end) = solid_range(&pieces, from);
+    pieces.cut_at(start, end);
+    pieces
+}
+
 /// Pieces without the white space at their ends, which is cut off in place.
 pub fn without_ends(pieces: Pieces) -> Pieces
     ensures { result ≡ stripped pieces }
 {
-    let mut pieces = pieces;
-    let (start, end) = solid_range(&pieces, 0);
-    pieces.cut_at(start, end);
-    pieces
+    stripped_from(pieces, 0)
 }
 
 // Adds an argument, without the white space at its ends.

@@ -216,17 +216,6 @@ fn finished(name: PlainText, arity: Option<usize>, size: usize, body: Body) -> O
     }
 }
 
-/// The pieces from a place on, at most their number, without the white space at their ends.
-pub fn stripped_from(spare: &mut Spare, pieces: &Pieces, from: usize) -> Result<Pieces, OutOfMemory>
-    requires { from ≤ length pieces.now }
-    ensures { IfOk result (λ r. r ≡ stripped (drop from pieces.now)) }
-{
-    let (start, end) = solid_range(pieces, from);
-    let mut solid = spare.take();
-    solid.append_between(pieces, start, end)?;
-    Ok(solid)
-}
-
 // A macro whose body the pieces between two places are.
 fn with_pieces(
     alloc: Global,

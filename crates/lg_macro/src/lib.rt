@@ -14,8 +14,9 @@ mod spare;
 mod substitution;
 mod text;
 
+pub use arguments::stripped_from;
 pub use cutting::push_cut;
-pub use defines::{one_word, spliced, stripped_from, written};
+pub use defines::{one_word, spliced, written};
 pub use macros::{MOST_HELD, Macro, Table, Work, count, hold, is_hidden, refused};
 pub use pieces::{PieceKind, Pieces};
 pub use plain_text::PlainText;

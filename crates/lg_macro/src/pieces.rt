@@ -336,10 +336,14 @@ fn drop_front<T: Copy + Drop>(items: &mut Vec<T>, n: usize)
 }
 
 // Says that the bytes of parts, which lie between two places, were moved to the front.
+#[tactic(auto, using(crate::proofs::RowLemmas::all_unmoved))]
 fn move_to_front(parts: &mut [Part], from: usize, end: usize)
     requires { All (IsBetween from end) parts.old }
     ensures { parts.new ≡ map (moved from 0) parts.old }
 {
+    if from == 0 {
+        return;
+    }
     for part in parts.iter_mut() {
         *part = moved(*part, from, 0);
     }

@@ -25,7 +25,6 @@ use lg_macro::{
 use memchr::memchr;
 use memchr::memmem::find;
 use std::alloc::Global;
-use std::mem::replace;
 
 /// The outcome of a text has: macros, open conditions, the lines that wait for the next directive, bytes given, and the sum of replacements.
 #[derive(Drop)]
@@ -146,34 +145,25 @@ impl Expander {
     }
 
     // Reads a directive by the pieces after its `#`.
-    fn obey(
-        &mut self,
-        alloc: Global,
-        spare: &mut Spare,
-        line: u32,
-        body: &Pieces,
-    ) -> Result<(), Stop>
-        ensures { CountsAs result self.new (obeys self.old line body.now) }
+    fn obey(&mut self, work: &mut Work, line: u32, body: Pieces) -> Result<(), Stop>
+        ensures { CountsAs result self.new (obeys self.old line body) }
     {
-        let rest = stripped_from(spare, body, body.len().min(1))?;
-        let done = self.obeyed(alloc, line, &rest, directive_of(body));
-        spare.give(rest);
+        let directive = directive_of(&body);
+        let name = body.len().min(1);
+        let rest = stripped_from(body, name);
+        let done = self.obeyed(work.alloc, line, &rest, directive);
+        work.spare.give(rest);
         done
     }
 
     // Gives the lines that wait, expanded.
-    fn give_lines(&mut self, alloc: Global, spare: &mut Spare) -> Result<(), Stop>
+    fn give_lines(&mut self, work: &mut Work) -> Result<(), Stop>
         ensures { CountsAs result self.new (gives_lines self.old) }
     {
-        let mut work = Work {
-            alloc,
-            hidden: Vec::new(alloc),
-            sum: self.sum,
-            room: MOST_HELD,
-            spare: replace(spare, Spare::new(alloc)),
-        };
-        flush(&self.table, &mut work, &self.lines, &mut self.given)?;
-        *spare = work.spare;
+        work.hidden.clear();
+        work.sum = self.sum;
+        work.room = MOST_HELD;
+        flush(&self.table, work, &self.lines, &mut self.given)?;
         self.sum = work.sum;
         self.lines.clear();
         Ok(())
@@ -190,42 +180,40 @@ impl Expander {
     }
 
     // Gives what becomes of the lines that wait.
-    fn flush_lines(&mut self, alloc: Global, spare: &mut Spare) -> Result<(), Stop>
+    fn flush_lines(&mut self, work: &mut Work) -> Result<(), Stop>
         ensures { CountsAs result self.new (flushes self.old) }
     {
         if self.conditions.is_skipping() {
-            self.feed_lines(alloc)
+            self.feed_lines(work.alloc)
         } else {
-            self.give_lines(alloc, spare)
+            self.give_lines(work)
         }
     }
 
     // Reads a directive by its pieces, and gives its line feeds.
     fn directed(
         &mut self,
-        alloc: Global,
-        spare: &mut Spare,
+        work: &mut Work,
         text: &Pieces,
         at: usize,
         end: usize,
         line: u32,
-        body: &Pieces,
+        body: Pieces,
     ) -> Result<usize, Stop>
         requires order { at ≤ end }
         requires inside { end ≤ length text.now }
-        ensures gives { StepsAs result self.new (directed text.now self.old at end line body.now) }
+        ensures gives { StepsAs result self.new (directed text.now self.old at end line body) }
         ensures end { IfOk result (λ n. n ≡ end) }
     {
-        self.obey(alloc, spare, line, body)?;
-        feed(alloc, text, at, end, &mut self.given)?;
+        self.obey(work, line, body)?;
+        feed(work.alloc, text, at, end, &mut self.given)?;
         Ok(end)
     }
 
     // Reads a directive, its `#` at a place.
     fn direct(
         &mut self,
-        alloc: Global,
-        spare: &mut Spare,
+        work: &mut Work,
         text: &Pieces,
         at: usize,
         sign: usize,
@@ -237,22 +225,14 @@ impl Expander {
         ensures gives { StepsAs result self.new (directs text.now self.old at sign end) }
         ensures end { IfOk result (λ n. n ≡ end) }
     {
-        self.flush_lines(alloc, spare)?;
-        let body = body_between(spare, text, sign + 1, end)?;
-        let done = self.directed(alloc, spare, text, at, end, text.line(sign), &body);
-        spare.give(body);
-        done
+        self.flush_lines(work)?;
+        let body = body_between(&mut work.spare, text, sign + 1, end)?;
+        self.directed(work, text, at, end, text.line(sign), body)
     }
 
     // Reads the line that begins at a place: the place after it.
     #[tactic(auto, unfolding(crate::specs::Expanded::one_line))]
-    fn one_line(
-        &mut self,
-        alloc: Global,
-        spare: &mut Spare,
-        text: &Pieces,
-        at: usize,
-    ) -> Result<usize, Stop>
+    fn one_line(&mut self, work: &mut Work, text: &Pieces, at: usize) -> Result<usize, Stop>
         requires { at < length text.now }
         ensures line { StepsAs result self.new (one_line text.now self.old at) }
         ensures inside { IfOk result (λ n. (at < n) × (n ≤ length text.now)) }
@@ -266,17 +246,17 @@ impl Expander {
             }
             Some(n) => {
                 let end = at + n + line_len(text, at + n, true);
-                self.direct(alloc, spare, text, at, at + n, end)
+                self.direct(work, text, at, at + n, end)
             }
         }
     }
 
     // Gives what is left at the end of a text.
     #[tactic(auto, unfolding(crate::specs::Expanded::finishes))]
-    fn finish(&mut self, alloc: Global, spare: &mut Spare) -> Result<(), Stop>
+    fn finish(&mut self, work: &mut Work) -> Result<(), Stop>
         ensures { CountsAs result self.new.given (finishes self.old) }
     {
-        self.flush_lines(alloc, spare)?;
+        self.flush_lines(work)?;
         match self.conditions.innermost() {
             None => Ok(()),
             Some(condition) => Err(refused(RefusalKind::BadDirective, condition.line)),
@@ -288,13 +268,19 @@ impl Expander {
         ensures { CountsAs result self.new.given (lines_in (length text.now) text.now self.old 0) }
     {
         let end = text.len();
-        let mut spare = Spare::new(alloc);
+        let mut work = Work {
+            alloc,
+            hidden: Vec::new(alloc),
+            sum: 0,
+            room: MOST_HELD,
+            spare: Spare::new(alloc),
+        };
         let mut at = 0;
         'lines: while at < end {
-            let next = self.one_line(alloc, &mut spare, text, at)?;
+            let next = self.one_line(&mut work, text, at)?;
             at = next;
         }
-        self.finish(alloc, &mut spare)
+        self.finish(&mut work)
     }
 }
 
