@@ -1,5 +1,5 @@
 -- The line feeds of pieces: what cutting, pasting and calls do to them.
-use Rattle.std.proofs.Common.{◌≡◌, ℕ, zero, suc, ◌+◌, ◌-◌, ◌≤◌, ◌==◌, ◌&&◌, ◌||◌, max, Bool, true, false, not, if◌then◌else◌, List, [], ◌∷◌, ◌++◌, length, take, drop, fold, filter, refl, sym, ap, ◌∙◌, arith, Option, Some, None, one-add}
+use Rattle.std.proofs.Common.{◌≡◌, ℕ, zero, suc, ◌+◌, ◌-◌, ◌<◌, ◌≤◌, ◌==◌, ◌&&◌, ◌||◌, max, Bool, true, false, not, if◌then◌else◌, List, [], ◌∷◌, ◌++◌, length, take, drop, fold, filter, refl, sym, ap, ◌∙◌, arith, Option, Some, None, one-add}
 use Rattle.std.proofs.lemmas.Bool.{false≢true, true≢false, eqb-true}
 use Rattle.std.proofs.lemmas.List.{take-append-drop, drop-drop}
 use Rattle.std.proofs.lemmas.List.Sums.{sum_by-append, sum_by-cons}
@@ -307,6 +307,14 @@ front_tidy b rest =
     either_front (b ∷ rest) (is_word_start b) (Word, prefix_len is_word_byte (b ∷ rest)) _ (λ t other. at_least_one b (prefix_len is_word_byte (b ∷ rest)) rest (not_feed is_word_start b refl t) (prefix_quiet is_word_byte refl (b ∷ rest))) (λ t3.
     either_front (b ∷ rest) (is_ascii_digit b) (Number, prefix_len is_word_byte (b ∷ rest)) _ (λ t other. at_least_one b (prefix_len is_word_byte (b ∷ rest)) rest (not_feed is_ascii_digit b refl t) (prefix_quiet is_word_byte refl (b ∷ rest))) (λ t4.
     either_front (b ∷ rest) (b == 10) (Feed, 1) (Byte b, 1) (λ t other. absurd (true≢false other)) (λ t other. feeds_none b [] t refl)))))
+
+-- it has no line feed, where its kind has none
+pub front_quiet : (rest : List ℕ) (front : PieceKind × ℕ) → front ≡ front_of rest → 0 < length rest → 0 < front.1 → is_spaced front.0 ≡ false → feeds_of (take front.1 rest) ≡ 0
+front_quiet [] front is some one other = absurd (omega (arith, some))
+front_quiet (b ∷ rest) front is some one other =
+    let more : front.1 ≡ max 1 front.1 = omega (arith, one) in
+    ap (λ (n : ℕ). feeds_of (take n (b ∷ rest))) (more ∙ ap (λ (f : PieceKind × ℕ). max 1 f.1) is)
+    ∙ front_tidy b rest (ap (λ (f : PieceKind × ℕ). is_spaced f.0) (sym is) ∙ other)
 
 pub text_tidy : (k line : ℕ) (bytes : List ℕ) → AreTidy (text_pieces k line bytes)
 unfolding text_pieces

@@ -1,7 +1,7 @@
 // The pieces of a text with their lines, and the lines that are directives.
 
 ghost use Rattle.std.specs.Prelude.{◌≡◌, ◌+◌, ◌-◌, ◌<◌, ◌≤◌, ◌==◌, ◌&&◌, ◌^◌, slice_index, not, true, false, length, drop, IfOk, IfSome};
-ghost use Rattle.lg_macro.specs.Pieces.{piece_at, is_feed};
+ghost use Rattle.lg_macro.specs.Pieces.{piece_at, is_feed, is_spaced};
 ghost use Rattle.lg_macro.specs.Text.{is_comment, feeds_of, text_pieces, ends_with_slash, line_len, marks_line, begins_directive, mark_in};
 
 use crate::cutting::front_of;
@@ -18,13 +18,17 @@ fn feeds_of(text: &[u8]) -> usize
     text.iter().filter(|b| **b == b'\n').count()
 }
 
-// Returns the line after a piece that begins on a line.
-fn line_after(line: u32, piece: &[u8]) -> u32
-    requires { line + length piece.now < 2 ^ 32 }
+// Returns the line after a piece that begins on a line. The bytes are counted only where there can be a line feed among them.
+fn line_after(line: u32, kind: PieceKind, piece: &[u8]) -> u32
+    requires fits { line + length piece.now < 2 ^ 32 }
+    requires quiet { is_spaced kind ≡ false → feeds_of piece.now ≡ 0 }
     ensures value { result ≡ line + feeds_of piece.now }
     ensures few { result ≤ line + length piece.now }
 {
-    line + feeds_of(piece) as u32
+    match kind {
+        PieceKind::Comment | PieceKind::Feed => line + feeds_of(piece) as u32,
+        _ => line,
+    }
 }
 
 /// Returns the pieces of a text, each with the line of its first byte.
@@ -47,7 +51,7 @@ pub fn text_pieces(alloc: Global, text: &[u8]) -> Result<Pieces, OutOfMemory>
             start: at,
             end: at + n,
         })?;
-        line = line_after(line, piece);
+        line = line_after(line, kind, piece);
         at += n;
     }
     let pieces = Pieces::of(alloc, text, parts)?;

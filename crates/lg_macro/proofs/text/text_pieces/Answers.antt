@@ -2,7 +2,8 @@ use Rattle.std.proofs.Common.{◌≡◌, ◌≤◌, ◌+◌, ◌-◌, ◌++◌, 
 use Rattle.std.proofs.lemmas.List.{length-take-le, map_push}
 use Rattle.lg_macro.specs.declared.pieces.Part.{Part}
 use Rattle.lg_macro.specs.PieceParts.{piece_of}
-use Rattle.lg_macro.specs.Text.{text_pieces}
+use Rattle.lg_macro.specs.Text.{feeds_of, text_pieces}
+use Rattle.lg_macro.proofs.FeedLemmas.{front_quiet}
 use Rattle.lg_macro.proofs.RowLemmas.{pushed_at}
 use Rattle.lg_macro.proofs.TextLemmas.{text_more, text_done}
 use Rattle.lg_macro.proofs.text.text_pieces.Goals as goal
@@ -21,8 +22,12 @@ pieces-init c = (
   rw c.new-parts.ensures.items (λ k d lt. absurd (omega (arith, lt)), refl),
 )
 
-pub line_after-line-requires : goal.line_after-line-requires
-line_after-line-requires c = omega (arith, c.pieces.invariant.2, c.pieces.invariant.3, c.front_of-kind.ensures.inside, ap length c.behind-rest.ensures, length-drop c.pieces.at c.args.text.now, ap length c.ahead-piece.ensures, length-take-le c.front_of-kind.result.1 c.behind-rest.result.now c.front_of-kind.ensures.inside)
+pub line_after-line-requires-clause-quiet : goal.line_after-line-requires-clause-quiet
+line_after-line-requires-clause-quiet c = λ other. ap feeds_of c.ahead-piece.ensures
+    ∙ front_quiet c.behind-rest.result.now c.front_of-kind.result c.front_of-kind.ensures.value (omega (arith, c.front_of-kind.ensures.inside, c.front_of-kind.ensures.some)) c.front_of-kind.ensures.some other
+
+pub line_after-line-requires-clause-fits : goal.line_after-line-requires-clause-fits
+line_after-line-requires-clause-fits c = omega (arith, c.pieces.invariant.2, c.pieces.invariant.3, c.front_of-kind.ensures.inside, ap length c.behind-rest.ensures, length-drop c.pieces.at c.args.text.now, ap length c.ahead-piece.ensures, length-take-le c.front_of-kind.result.1 c.behind-rest.result.now c.front_of-kind.ensures.inside)
 
 pub pieces-preserved : goal.pieces-preserved
 pieces-preserved c =
