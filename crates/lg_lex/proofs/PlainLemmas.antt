@@ -1,7 +1,7 @@
 -- What is at the front where that is a word, a register or a decimal number.
-use Rattle.std.proofs.Common.{◌≡◌, ℕ, ◌+◌, ◌-◌, ◌*◌, ◌<◌, ◌≤◌, ◌^◌, ◌==◌, ◌||◌, Bool, true, false, cond, List, length, get_or, take, drop, refl, sym, ap, subst, ◌∙◌, arith, Option, Some, None, true≢false}
+use Rattle.std.proofs.Common.{◌≡◌, ◌≢◌, ℕ, ◌+◌, ◌-◌, ◌*◌, ◌<◌, ◌≤◌, ◌^◌, ◌==◌, ◌||◌, Bool, true, false, cond, List, length, get_or, take, drop, refl, sym, ap, subst, ◌∙◌, arith, Option, Some, None, true≢false}
 use Rattle.std.specs.Prelude.{IfSome}
-use Rattle.std.specs.Char.{digit_value, is_digit, is_ascii_digit, is_ascii_alphanumeric}
+use Rattle.std.specs.Char.{digit_value, is_digit, is_ascii_digit, is_ascii_alphanumeric, is_ascii_lowercase}
 use Rattle.std.specs.Int.{is_in_range}
 use Rattle.std.specs.List.{prefix_len}
 use Rattle.std.proofs.lemmas.Bool.Decides.{nat_tests}
@@ -9,15 +9,16 @@ use Rattle.std.proofs.lemmas.List.{length-take-le}
 use Rattle.std.proofs.lemmas.List.Sums.{prefix_len-drop_yes, prefix_len-drop_no}
 use Rattle.lg_base.specs.WordBytes.{is_word_start, is_word_byte}
 use Rattle.lg_lex.specs.declared.fronts.Front.{Front}
+use Rattle.lg_lex.specs.declared.fronts.Front.TheVariants.{Finds}
 use Rattle.lg_lex.specs.declared.numbers.Literal.{Literal}
-use Rattle.lg_lex.specs.declared.token.TokenKind.TheVariants.{Register, Number}
+use Rattle.lg_lex.specs.declared.token.TokenKind.TheVariants.{Word, LabelMark, Register, Number}
 use Rattle.lg_lex.specs.Blanks.{blank_at, comment_at}
 use Rattle.lg_lex.specs.Bytes.{is_space, is_suffix_letter}
 use Rattle.lg_lex.specs.Fronts.{IsFront, LiesWithin, word_len, word_at, marked_at, mark_at, literal_token, token_at, front_at}
 use Rattle.lg_lex.specs.Lines.{IsSolid, StaysInLine}
 use Rattle.lg_lex.specs.Tokens.{IsPlace}
 use Rattle.lg_lex.specs.Numbers.{digits_value, narrowed, digits_at, magnitude_at, suffix_at, unsigned_at, number_at}
-use Rattle.lg_lex.proofs.ByteLemmas.{within, first_of_drop, eqb_other}
+use Rattle.lg_lex.proofs.ByteLemmas.{within, first_of_drop, eqb_same, eqb_other}
 use Rattle.lg_lex.proofs.DigitLemmas.{narrowed-fits, digits_value_more}
 use Rattle.lg_lex.proofs.FrontLemmas.{front_within}
 use Rattle.lg_lex.proofs.LengthLemmas.{run_positive}
@@ -103,6 +104,37 @@ word_solid bytes = solid_cond (get_or bytes (word_len bytes) 0 == 58) _ _ refl r
 pub register_solid : (bytes : List ℕ) → IsSolid (marked_at Register bytes)
 unfolding marked_at
 register_solid bytes = solid_cond (word_len (drop 1 bytes) == 0) _ _ tt refl
+
+-- a word has all the bytes of words that are there
+pub word_len_is : (bytes : List ℕ) → 0 < word_len bytes → word_len bytes ≡ prefix_len is_word_byte bytes
+unfolding word_len
+word_len_is bytes = by (is_word_start (get_or bytes 0 0)) where
+  by : (t : Bool) → 0 < cond t (prefix_len is_word_byte bytes) 0 → cond t (prefix_len is_word_byte bytes) 0 ≡ prefix_len is_word_byte bytes
+  by true some = refl
+  by false some = absurd (omega (arith, some))
+
+pub label_is : (bytes : List ℕ) (n : ℕ) → word_len bytes ≡ n → get_or bytes n 0 ≡ 58 → Finds LabelMark (n + 1) 0 ≡ word_at bytes
+unfolding word_at
+label_is bytes n len colon = rw (len, eqb_same (get_or bytes n 0) 58 colon) refl
+
+pub word_is : (bytes : List ℕ) (n : ℕ) → word_len bytes ≡ n → get_or bytes n 0 ≢ 58 → Finds Word n 0 ≡ word_at bytes
+unfolding word_at
+word_is bytes n len other = rw (len, eqb_other (get_or bytes n 0) 58 other) refl
+
+lower_starts : (b : ℕ) → is_ascii_lowercase b ≡ true → is_word_start b ≡ true
+lower_starts b h = grind (arith, nat_tests)
+
+-- a letter and a byte of words after the first byte, and no more
+pub short_register : (bytes : List ℕ) → 3 < length bytes → is_ascii_lowercase (get_or bytes 1 0) ≡ true → is_word_byte (get_or bytes 2 0) ≡ true → is_word_byte (get_or bytes 3 0) ≡ false
+    → Finds Register 3 0 ≡ marked_at Register bytes
+unfolding marked_at word_len
+short_register bytes inside lower goes end =
+    let start = lower_starts (get_or bytes 1 0) lower in
+    let one = prefix_len-drop_yes is_word_byte bytes 1 0 (omega (arith, inside)) (start_goes_on (get_or bytes 1 0) start) in
+    let two = prefix_len-drop_yes is_word_byte bytes 2 0 (omega (arith, inside)) goes in
+    let none = prefix_len-drop_no is_word_byte bytes 3 0 inside end in
+    let len : prefix_len is_word_byte (drop 1 bytes) ≡ 2 = omega (arith, one, two, none) in
+    rw (first_of_drop bytes 1, start, len) refl
 
 -- ---- decimal numbers
 

@@ -43,13 +43,12 @@ fn word_len(bytes: &[u8]) -> usize
 }
 
 // A word or a label definition.
-#[tactic(auto, unfolding(crate::specs::Fronts::word_at))]
 fn word(bytes: &[u8]) -> Front
     requires { 0 < word_len bytes.now }
     ensures value { result ≡ word_at bytes.now }
     ensures inside { LiesWithin result (length bytes.now) }
 {
-    let n = word_len(bytes);
+    let n = word_byte_len(bytes);
     if byte_at(bytes, n) == b':' {
         Front::Finds(TokenKind::LabelMark, n + 1, 0)
     } else {
@@ -200,6 +199,17 @@ fn plain_number(bytes: &[u8]) -> Option<Front>
     Some(Front::Finds(TokenKind::Number, found.len, found.value))
 }
 
+// A register. All that there are have two bytes after the `%`.
+fn register(bytes: &[u8]) -> Front
+    ensures { result ≡ marked_at TokenKind.Register bytes.now }
+{
+    match bytes {
+        [_, a, b, end, ..] if a.is_ascii_lowercase() && goes_on(*b) && !goes_on(*end) =>
+            Front::Finds(TokenKind::Register, 3, 0),
+        _ => marked(bytes, TokenKind::Register),
+    }
+}
+
 /// Returns what is at the front if it begins with a letter, `_` or `%` or is a plain decimal number, as most tokens do. `None` does not say what is there.
 #[inline(always)]
 pub(crate) fn plain_front(bytes: &[u8]) -> Option<Front>
@@ -214,7 +224,7 @@ pub(crate) fn plain_front(bytes: &[u8]) -> Option<Front>
             Some(word(bytes))
         }
     } else if b == b'%' {
-        Some(marked(bytes, TokenKind::Register))
+        Some(register(bytes))
     } else {
         None
     }

@@ -22,7 +22,7 @@ returns-else-is_ascii_digit-clause-solid c = subst IsSolid (sym c.word.ensures.v
 
 pub returns-then-b-eq37-clause-value : goal.returns-then-b-eq37-clause-value
 returns-then-b-eq37-clause-value c fresh =
-    register_front fresh c.args.bytes.now (sym c.byte_at-b.ensures ∙ c.if-b-eq37.true) ∙ sym c.marked.ensures.value
+    register_front fresh c.args.bytes.now (sym c.byte_at-b.ensures ∙ c.if-b-eq37.true) ∙ sym c.register.ensures
 
 pub returns-then-b-eq37-clause-solid : goal.returns-then-b-eq37-clause-solid
-returns-then-b-eq37-clause-solid c = subst IsSolid (sym c.marked.ensures.value) (register_solid c.args.bytes.now)
+returns-then-b-eq37-clause-solid c = subst IsSolid (sym c.register.ensures) (register_solid c.args.bytes.now)
