@@ -77,6 +77,7 @@ impl<'a> Parser<'a> {
     }
 
     // The next token, as an operand of the statement that begins in a line.
+    #[inline(always)]
     fn wanted(&mut self, line: u32) -> Result<Token, Stop>
         ensures gives { GivesWith result self.new (wanted line self.old) (behind self.old) }
         ensures token { IfOk result (λ token. IsToken self.new.source.text token) }
@@ -118,6 +119,7 @@ impl<'a> Parser<'a> {
     }
 
     // The next token, as the first of a statement: None at the end of the text.
+    #[inline(always)]
     fn next_token(&mut self) -> Result<Option<Token>, Stop>
         ensures value { Reads result (next_of self.old.source.left self.old.source.fault) }
         ensures behind { self.new ≡ behind self.old }

@@ -42,6 +42,7 @@ impl<'a> Source<'a> {
     }
 
     /// Takes the next token, None exactly at the end of the text, or returns the text's fault.
+    #[inline(always)]
     pub fn next(&mut self) -> Result<Option<Token>, Refusal>
         ensures value { result ≡ next_of self.old.left self.old.fault }
         ensures rest { self.new ≡ passed self.old }

@@ -155,6 +155,7 @@ impl Parser<'_> {
     }
 
     // A node, whose operands have been read.
+    #[inline(always)]
     fn push(&mut self, node: Node) -> Result<(), Stop>
         requires room { length self.old.list.nodes < most_nodes }
         requires form { InForm node }
@@ -164,16 +165,13 @@ impl Parser<'_> {
         Ok(())
     }
 
-    // All operands of an operation, after those that have tokens.
-    fn all_operands(&self, op: Op, done: Operands) -> Operands
-        requires { length done ≡ length (written_forms op) }
-        ensures { result ≡ all_operands op done self.now.names }
+    // Appends the operand of an operation that has no token, after those that have one.
+    fn complete(&self, op: Op, done: &mut Operands)
+        requires { length done.old ≡ length (written_forms op) }
+        ensures { done.new ≡ all_operands op done.old self.now.names }
     {
-        match op {
-            Op::Plain(PlainOp::VaStart) => {
-                done.with(Operand::Number(u64::from(self.names.arguments())))
-            }
-            _ => done,
+        if op == Op::Plain(PlainOp::VaStart) {
+            done.push(Operand::Number(u64::from(self.names.arguments())));
         }
     }
 
@@ -183,14 +181,18 @@ impl Parser<'_> {
         ensures { Gives result self.new (operands op line (written_forms op) [] self.old) }
     {
         let forms = written_forms(op);
-        let mut done = Operands::of(&[]);
+        let mut node = Node {
+            op,
+            line,
+            operands: Operands::of(&[]),
+        };
         for form in forms {
             let token = self.wanted(line)?;
-            let operand = self.operand(op, *form, done.as_slice(), token)?;
-            done.push(operand);
+            let operand = self.operand(op, *form, node.operands.as_slice(), token)?;
+            node.operands.push(operand);
         }
-        let operands = self.all_operands(op, done);
-        self.push(Node { op, operands, line })
+        self.complete(op, &mut node.operands);
+        self.push(node)
     }
 
     // An instruction, and `.align N` of code.
