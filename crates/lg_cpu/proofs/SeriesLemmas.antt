@@ -1,11 +1,12 @@
 -- One more of many steps.
-use Rattle.std.proofs.Common.{◌≡◌, ◌≢◌, ℕ, ◌+◌, ◌<◌, List, [], ◌++◌, Option, sym, ap, ap₂, ◌∙◌, refl}
+use Rattle.std.proofs.Common.{◌≡◌, ◌≢◌, ℕ, zero, suc, ◌+◌, ◌<◌, List, [], ◌++◌, Option, sym, ap, ap₂, ◌∙◌, refl, subst, arith, append-nil}
+use Rattle.lg_base.specs.Runs.{iter}
 use Rattle.lg_cpu.specs.Answers.{progress_of, counted}
-use Rattle.lg_cpu.specs.Machines.{Inner, Comes, Shown, StepSays, StepShows, after_step, effect_in, run_of, shown_of}
-use Rattle.lg_cpu.specs.Series.{EndsWith, IsAt, effect_at, going_on, run_from}
+use Rattle.lg_cpu.specs.Machines.{Inner, Comes, Does, Fixed, Shown, StepSays, StepShows, after_step, effect_in, run_of, shown_of}
+use Rattle.lg_cpu.specs.Series.{EndsWith, Executes, IsAt, LeadsOver, StopsWith, effect_at, going_on, run_from}
 use Rattle.lg_cpu.specs.States.{CpuState}
 use Rattle.lg_cpu.specs.Steps.{Effect, after, on_going, stepped}
-use Rattle.lg_cpu.specs.Targets.{effect_of}
+use Rattle.lg_cpu.specs.Targets.{effect_of, machine_of}
 use Rattle.lg_cpu.specs.declared.answer.CpuStep.{CpuStep}
 use Rattle.lg_cpu.specs.declared.answer.CpuStep.TheVariants as cpu
 use Rattle.lg_cpu.proofs.FollowLemmas.{back, iter_more, iter_none}
@@ -63,3 +64,69 @@ ends cpu.Went n most here new taken taken' count count' other below h = absurd (
 ends (cpu.Ended status) n most here new taken taken' count count' other below h = (below, h)
 ends (cpu.Fault kind) n most here new taken taken' count count' other below h = (below, h)
 ends cpu.WriteFault n most here new taken taken' count count' other below h = (below, h)
+
+-- ---- instructions of the code, which write nothing
+pub leads_none : (p : Inner) → LeadsOver p p 0
+leads_none p = record { stands = λ out. sym (iter_none (machine_of p.fixed.target p.fixed.code p.fixed.trash).step (run_of (going_on p 0) out)); fixed = refl }
+
+-- one more that went
+pub leads_more : (old here new : Inner) (n : ℕ) (answer : CpuStep) → LeadsOver old here n → answer ≡ cpu.Went → Does (effect_in here) here new answer → LeadsOver old new (n + 1)
+leads_more old here new n answer h is d = record {
+  stands = λ out.
+      let step = (machine_of old.fixed.target old.fixed.code old.fixed.trash).step in
+      sym (iter_more step n (run_of (going_on old 0) out) ∙ ap step (sym (h.stands out)) ∙ one out);
+  fixed = d.2 ∙ h.fixed;
+}
+  where
+    e : Effect CpuState
+    e = effect_in here
+
+    same : effect_of old.fixed.target old.fixed.code old.fixed.trash here.state ≡ effect_in here
+    same = ap (λ (x : Fixed). effect_of x.target x.code x.trash here.state) (sym h.fixed)
+
+    goes : (effect_in here).progress ≡ progress_of cpu.Went
+    goes = sym (back (effect_in here).progress) ∙ ap progress_of (sym d.0 ∙ is)
+
+    one : (out : List ℕ) → after (run_of (going_on here 0) out) (effect_of old.fixed.target old.fixed.code old.fixed.trash here.state) ≡ run_of (going_on new 0) out
+    one out = ap (after (run_of (going_on here 0) out)) same
+        ∙ (λ i. record { state = sym d.1 i; progress = goes i; out = (ap (λ x. out ++ x) d.3 ∙ append-nil out) i })
+
+iter_plus : {S : Type 0} (step : S → S) (n m : ℕ) (s : S) → iter step (n + m) s ≡ iter step m (iter step n s)
+unfolding iter
+iter_plus step n zero s = let none : n + 0 ≡ n = omega arith in ap (λ k. iter step k s) none
+iter_plus step n (suc m) s = let more : n + suc m ≡ suc (n + m) = omega arith in ap (λ k. iter step k s) more ∙ ap step (iter_plus step n m s)
+
+-- and the run is there too, in which they are taken
+pub then_leads : (start : Shown) (p q : Inner) (k l n m : ℕ) (out : List ℕ) → IsAt start (going_on p k) n out → LeadsOver p q m → IsAt start (going_on q l) (n + m) out
+then_leads start p q k l n m out at h =
+    let step = (machine_of start.target start.code start.trash).step in
+    record {
+      stands = h.stands out
+          ∙ ap (λ t. iter (machine_of t p.fixed.code p.fixed.trash).step m (run_of (going_on p 0) out)) at.target
+          ∙ ap₂ (λ code trash. iter (machine_of start.target code trash).step m (run_of (going_on p 0) out)) at.code at.trash
+          ∙ ap (iter step m) at.stands ∙ sym (iter_plus step n m (run_of start []));
+      target = ap (λ (x : Fixed). x.target) h.fixed ∙ at.target;
+      code = ap (λ (x : Fixed). x.code) h.fixed ∙ at.code;
+      trash = ap (λ (x : Fixed). x.trash) h.fixed ∙ at.trash;
+    }
+
+-- where no other answer came the last is the one that is reached
+pub none_stopped : (answer : CpuStep) (n most : ℕ) (here new : Inner) → answer ≡ cpu.Went → StopsWith answer n most here new → new ≡ here
+none_stopped cpu.Went n most here new is h = h
+none_stopped (cpu.Ended status) n most here new is h = cc
+none_stopped (cpu.Fault kind) n most here new is h = cc
+none_stopped cpu.WriteFault n most here new is h = cc
+
+-- else it came to it by a step
+pub one_stopped : (answer : CpuStep) (n most : ℕ) (here new : Inner) → answer ≢ cpu.Went → StopsWith answer n most here new → (n < most) × Does (effect_in here) here new answer
+one_stopped cpu.Went n most here new other h = absurd (other refl)
+one_stopped (cpu.Ended status) n most here new other h = h
+one_stopped (cpu.Fault kind) n most here new other h = h
+one_stopped cpu.WriteFault n most here new other h = h
+
+-- a run is where the instructions led that it executed, of which none came to another answer
+pub then_executed : (start : Shown) (p q : Inner) (steps n most m : ℕ) (answer : CpuStep) (out : List ℕ) → IsAt start (going_on p (steps + n)) n out → answer ≡ cpu.Went
+    → Executes p q most answer m → IsAt start (going_on q (steps + (n + m))) (n + m) out
+then_executed start p q steps n most m answer out at is h =
+    subst (λ x. IsAt start (going_on x (steps + (n + m))) (n + m) out) (sym (none_stopped answer m most h.here q is h.stops))
+    (then_leads start p h.here (steps + n) (steps + (n + m)) n m out at h.leads)

@@ -1,8 +1,8 @@
 -- Many steps at once.
-use Rattle.std.specs.Prelude.{◌≡◌, ℕ, ◌+◌, ◌<◌, List, [], Option}
+use Rattle.std.specs.Prelude.{◌≡◌, ℕ, ◌+◌, ◌<◌, ◌≤◌, List, [], Option}
 use Rattle.std.specs.Io.KnownBytes.{Appends}
 use Rattle.lg_base.specs.Runs.{iter}
-use Rattle.lg_cpu.specs.Machines.{Inner, Shown, StepShows, run_of, shown_of}
+use Rattle.lg_cpu.specs.Machines.{Does, Inner, Shown, StepShows, effect_in, run_of, shown_of}
 use Rattle.lg_cpu.specs.States.{CpuState}
 use Rattle.lg_cpu.specs.Steps.{Effect, Run}
 use Rattle.lg_cpu.specs.Targets.{effect_of, machine_of}
@@ -50,3 +50,20 @@ AdvancesAfter before old new most taken taken' count count' answer = (answer ≡
 -- the same of the processor of a target, after this many steps
 abbrev pub going_on : Inner → ℕ → Shown
 going_on p steps = shown_of p cpu.Went steps
+
+-- this many instructions of the code lead a processor from one state to another, whatever was written before, and write nothing
+pub record LeadsOver (old here : Inner) (n : ℕ) : Type 0 where
+  pub stands : (out : List ℕ) → run_of (going_on here 0) out ≡ iter (machine_of old.fixed.target old.fixed.code old.fixed.trash).step n (run_of (going_on old 0) out)
+  pub fixed : here.fixed ≡ old.fixed
+
+-- after them comes one with another answer, where fewer than the most went, or none
+abbrev pub StopsWith : CpuStep → (n most : ℕ) → (here new : Inner) → Type 0
+StopsWith cpu.Went n most here new = new ≡ here
+StopsWith answer n most here new = (n < most) × Does (effect_in here) here new answer
+
+-- at most this many instructions of the code went, and then one came to another answer or no more were executed
+pub record Executes (old new : Inner) (most : ℕ) (answer : CpuStep) (went : ℕ) : Type 0 where
+  pub few : went ≤ most
+  pub here : Inner
+  pub leads : LeadsOver old here went
+  pub stops : StopsWith answer went most here new

@@ -1,9 +1,9 @@
 // Many steps of a processor at once.
 
-ghost use Rattle.std.specs.Prelude.{◌≡◌, ◌<◌, ◌≤◌, ◌+◌, ◌-◌, ◌^◌};
+ghost use Rattle.std.specs.Prelude.{◌≡◌, ◌<◌, ◌≤◌, ◌+◌, ◌-◌, ◌^◌, IfNone, IfSome};
 ghost use Rattle.lg_cpu.specs.Answers.{counted};
-ghost use Rattle.lg_cpu.specs.Machines.{Inner, StepSays, effect_in, shown_of, x86_inner, a64_inner, rv_inner};
-ghost use Rattle.lg_cpu.specs.Series.{Advances, going_on};
+ghost use Rattle.lg_cpu.specs.Machines.{Does, Inner, StepSays, effect_in, shown_of, x86_inner, a64_inner, rv_inner};
+ghost use Rattle.lg_cpu.specs.Series.{Advances, Executes, going_on};
 
 use crate::aarch64::Aarch64;
 use crate::answer::CpuStep;
@@ -16,6 +16,11 @@ pub trait Stepping {
     /// What is seen of it.
     ghost inner: { Self → Inner };
 
+    /// Executes the instruction at the program counter, and returns what it came to; None where none is read there. It writes nothing.
+    fn step_code(&mut self) -> Option<CpuStep>
+        ensures some { IfSome result (λ answer. Does (effect_in (inner self.old)) (inner self.old) (inner self.new) answer) }
+        ensures same { IfNone result (inner self.new ≡ inner self.old) };
+
     /// Takes one step, whether the run is over or not.
     fn advance<O: Sink>(&mut self, out: &mut O) -> CpuStep
         ensures says { StepSays (effect_in (inner self.old)) (inner self.old) (inner self.new)
@@ -27,6 +32,10 @@ impl Stepping for X86_64 {
     ghost inner = { λ p. x86_inner p };
 
     #[inline(always)]
+    fn step_code(&mut self) -> Option<CpuStep> {
+        self.step_code()
+    }
+
     fn advance<O: Sink>(&mut self, out: &mut O) -> CpuStep {
         self.step(out)
     }
@@ -36,6 +45,10 @@ impl Stepping for Aarch64 {
     ghost inner = { λ p. a64_inner p };
 
     #[inline(always)]
+    fn step_code(&mut self) -> Option<CpuStep> {
+        self.step_code()
+    }
+
     fn advance<O: Sink>(&mut self, out: &mut O) -> CpuStep {
         self.step(out)
     }
@@ -45,6 +58,10 @@ impl Stepping for Riscv64 {
     ghost inner = { λ p. rv_inner p };
 
     #[inline(always)]
+    fn step_code(&mut self) -> Option<CpuStep> {
+        self.step_code()
+    }
+
     fn advance<O: Sink>(&mut self, out: &mut O) -> CpuStep {
         self.step(out)
     }
@@ -55,6 +72,49 @@ impl Stepping for Riscv64 {
 pub struct Advanced {
     pub answer: CpuStep,
     pub steps: u64,
+}
+
+// How far instructions of the code have come: what the last one answered, `Went` where none came to another answer, and how many went.
+#[derive(Clone, Copy)]
+struct Executed {
+    answer: CpuStep,
+    went: u64,
+}
+
+// Executes instructions of the code until one gives another answer than `Went`, none is read, or this many went. It is one loop whatever sink the run writes to.
+#[inline(never)]
+fn execute_code<P: Stepping>(processor: &mut P, most: u64) -> Executed
+    ensures { Executes (P.inner processor.old) (P.inner processor.new) most result.answer result.went }
+{
+    let mut went = 0;
+    while went < most {
+        match processor.step_code() {
+            Some(CpuStep::Went) => went += 1,
+            Some(answer) => return Executed { answer, went },
+            None => {
+                return Executed {
+                    answer: CpuStep::Went,
+                    went,
+                };
+            }
+        }
+    }
+    Executed {
+        answer: CpuStep::Went,
+        went,
+    }
+}
+
+// How far a run comes with a step that answers so, before which it has taken this many.
+fn stopped(answer: CpuStep, steps: u64) -> Advanced
+    requires { steps < 2 ^ 64 - 1 }
+    ensures answer { result.answer ≡ answer }
+    ensures steps { result.steps ≡ counted answer steps }
+{
+    Advanced {
+        answer,
+        steps: behind(answer, steps),
+    }
 }
 
 /// Takes steps of a run that has taken this many, until one gives another answer than `Went`, and at most this many more.
@@ -71,13 +131,16 @@ pub fn advance<P: Stepping, O: Sink>(
 {
     let mut went = 0;
     while went < most {
-        match processor.advance(out) {
-            CpuStep::Went => went += 1,
-            answer => {
-                return Advanced {
-                    answer,
-                    steps: behind(answer, steps + went),
-                };
+        let executed = execute_code(processor, most - went);
+        went += executed.went;
+        match executed.answer {
+            CpuStep::Went => {}
+            answer => return stopped(answer, steps + went),
+        }
+        if went < most {
+            match processor.advance(out) {
+                CpuStep::Went => went += 1,
+                answer => return stopped(answer, steps + went),
             }
         }
     }

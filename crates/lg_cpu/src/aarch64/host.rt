@@ -51,7 +51,7 @@ fn register_arguments(registers: &[u64; 32]) -> Arguments
 }
 
 impl Aarch64 {
-    ghost use Rattle.std.specs.Prelude.{◌-◌, ◌%◌, ◌==◌, drop, true, false, None};
+    ghost use Rattle.std.specs.Prelude.{◌-◌, ◌%◌, ◌==◌, drop, true, false, None, IfNone, IfSome};
     ghost use Rattle.lg_base.specs.Layout.{code_base};
     ghost use Rattle.lg_a64.specs.Reading.{front_of};
     ghost use Rattle.lg_cpu.specs.Fetches.{in_code};
@@ -139,6 +139,31 @@ impl Aarch64 {
         };
     }
 
+    /// Executes the instruction at the program counter, and returns what it came to; None where none is read there. It writes nothing.
+    #[inline(always)]
+    pub fn step_code(&mut self) -> Option<CpuStep>
+        ensures some { IfSome result (λ answer. Does (effect_in (a64_inner self.old)) (a64_inner self.old) (a64_inner self.new) answer) }
+        ensures same { IfNone result (a64_inner self.new ≡ a64_inner self.old) }
+        ensures none { IfNone result (in_code self.new.code self.new.pc ≡ true → (self.new.pc % 4 == 0) ≡ true
+            → front_of (drop (self.new.pc - code_base) self.new.code) ≡ None) }
+    {
+        match self.code.find(self.pc) {
+            Some((instr, len)) => Some(self.execute(instr, len)),
+            None => None,
+        }
+    }
+
+    // The same by a call, so that what executes instructions stands twice in a program, here and in the loop over code, and not once for each sink.
+    #[inline(never)]
+    fn step_code_once(&mut self) -> Option<CpuStep>
+        ensures some { IfSome result (λ answer. Does (effect_in (a64_inner self.old)) (a64_inner self.old) (a64_inner self.new) answer) }
+        ensures same { IfNone result (a64_inner self.new ≡ a64_inner self.old) }
+        ensures none { IfNone result (in_code self.new.code self.new.pc ≡ true → (self.new.pc % 4 == 0) ≡ true
+            → front_of (drop (self.new.pc - code_base) self.new.code) ≡ None) }
+    {
+        self.step_code()
+    }
+
     /// Takes one step, whether the run is over or not.
     #[inline(always)]
     pub fn step<O: Sink>(&mut self, out: &mut O) -> CpuStep
@@ -146,8 +171,8 @@ impl Aarch64 {
             (O.taken out.old) (O.taken out.new) (O.faults out.old) (O.faults out.new) result }
         ensures later { O.faults out.old ≤ O.faults out.new }
     {
-        match self.code.find(self.pc) {
-            Some((instr, len)) => self.execute(instr, len),
+        match self.step_code_once() {
+            Some(answer) => answer,
             None => {
                 let mut answer = CpuStep::Went;
                 self.step_elsewhere(out, &mut answer);

@@ -73,7 +73,7 @@ fn takes_al(name: HostName, a: u64) -> bool
 }
 
 impl X86_64 {
-    ghost use Rattle.std.specs.Prelude.{◌-◌, ◌%◌, ◌==◌, drop, true, false, None};
+    ghost use Rattle.std.specs.Prelude.{◌-◌, ◌%◌, ◌==◌, drop, true, false, None, IfNone, IfSome};
     ghost use Rattle.lg_base.specs.Layout.{code_base};
     ghost use Rattle.lg_x86.specs.Reading.{front_of};
     ghost use Rattle.lg_cpu.specs.Fetches.{in_code};
@@ -173,6 +173,29 @@ impl X86_64 {
         };
     }
 
+    /// Executes the instruction at the program counter, and returns what it came to; None where none is read there. It writes nothing.
+    #[inline(always)]
+    pub fn step_code(&mut self) -> Option<CpuStep>
+        ensures some { IfSome result (λ answer. Does (effect_in (x86_inner self.old)) (x86_inner self.old) (x86_inner self.new) answer) }
+        ensures same { IfNone result (x86_inner self.new ≡ x86_inner self.old) }
+        ensures none { IfNone result (in_code self.new.code self.new.pc ≡ true → front_of (drop (self.new.pc - code_base) self.new.code) ≡ None) }
+    {
+        match self.code.find(self.pc) {
+            Some((instr, len)) => Some(self.execute(instr, len)),
+            None => None,
+        }
+    }
+
+    // The same by a call, so that what executes instructions stands twice in a program, here and in the loop over code, and not once for each sink.
+    #[inline(never)]
+    fn step_code_once(&mut self) -> Option<CpuStep>
+        ensures some { IfSome result (λ answer. Does (effect_in (x86_inner self.old)) (x86_inner self.old) (x86_inner self.new) answer) }
+        ensures same { IfNone result (x86_inner self.new ≡ x86_inner self.old) }
+        ensures none { IfNone result (in_code self.new.code self.new.pc ≡ true → front_of (drop (self.new.pc - code_base) self.new.code) ≡ None) }
+    {
+        self.step_code()
+    }
+
     /// Takes one step, whether the run is over or not.
     #[inline(always)]
     pub fn step<O: Sink>(&mut self, out: &mut O) -> CpuStep
@@ -180,8 +203,8 @@ impl X86_64 {
             (O.taken out.old) (O.taken out.new) (O.faults out.old) (O.faults out.new) result }
         ensures later { O.faults out.old ≤ O.faults out.new }
     {
-        match self.code.find(self.pc) {
-            Some((instr, len)) => self.execute(instr, len),
+        match self.step_code_once() {
+            Some(answer) => answer,
             None => {
                 let mut answer = CpuStep::Went;
                 self.step_elsewhere(out, &mut answer);

@@ -1,10 +1,12 @@
-use Rattle.std.proofs.Common.{◌≡◌, ◌≤◌, ◌+◌, ◌++◌, [], ap, sym, subst, ◌∙◌, arith, refl}
+use Rattle.std.proofs.Common.{◌≡◌, ◌≤◌, ◌+◌, ◌-◌, ◌++◌, ◌<◌, [], ℕ, ap, sym, subst, ◌∙◌, arith, refl}
 use Rattle.std.proofs.KnownBytes.{Appends-nil, Appends-trans}
 use Rattle.lg_cpu.specs.Answers.{counted}
 use Rattle.lg_cpu.specs.Machines.{StepSays, effect_in, shown_of}
-use Rattle.lg_cpu.specs.Series.{EndsWith, IsAt, going_on}
+use Rattle.lg_cpu.specs.Series.{Advances, EndsWith, IsAt, going_on}
+use Rattle.lg_cpu.specs.declared.answer.CpuStep.{CpuStep}
 use Rattle.lg_cpu.specs.declared.answer.CpuStep.TheVariants as cpu
-use Rattle.lg_cpu.proofs.SeriesLemmas.{at_start, ends, shows, then_at}
+use Rattle.lg_cpu.proofs.SaysLemmas.{says-quiet}
+use Rattle.lg_cpu.proofs.SeriesLemmas.{at_start, ends, none_stopped, one_stopped, shows, then_at, then_executed, then_leads}
 use Rattle.lg_cpu.proofs.series.advance.Goals as goal
 
 pub loop-went-init : goal.loop-went-init
@@ -19,57 +21,115 @@ loop-went-init g c = record {
   within = omega arith;
 }
 
+-- an instruction of the code came to another answer
 pub returns-in_default : goal.returns-in_default
 returns-in_default g c =
     let i = c.loop-went.invariant in
-    let p = g.P.Stepping.inner c.loop-went.processor in
+    let x = c.execute_code-executed in
+    let start = going_on (g.P.Stepping.inner c.args.processor.now) c.args.steps in
+    let here = x.ensures.here in
+    let q = g.P.Stepping.inner x.new.processor in
+    let went = c.loop-went.went + x.result.went in
+    let k = c.args.steps + went in
+    let answer = x.result.answer in
+    let taken = g.O.Sink.taken c.loop-went.out in
+    let faults = g.O.Sink.faults c.loop-went.out in
+    let stop = one_stopped answer x.result.went (c.args.most - c.loop-went.went) here q c.in_default.not-Went x.ensures.stops in
+    let below : went < c.args.most = let less = stop.0 in omega (arith, less) in
+    let h = shows here q k taken taken faults faults answer (says-quiet (effect_in here) here q taken faults answer stop.1) in
+    record {
+      says = subst (λ (z : CpuStep × ℕ). Advances start (shown_of q z.0 z.1) c.args.most (g.O.Sink.taken c.args.out.now) taken (g.O.Sink.faults c.args.out.now) faults z.0)
+          (λ j. (sym c.stopped.ensures.answer j, sym c.stopped.ensures.steps j)) record {
+            went = went;
+            here = going_on here k;
+            out = i.there.0;
+            between = taken;
+            at = then_leads start (g.P.Stepping.inner c.loop-went.processor) here (c.args.steps + c.loop-went.went) k c.loop-went.went x.result.went i.there.0 i.there.1 x.ensures.leads;
+            going = refl;
+            steps = refl;
+            written = i.there.2;
+            ends = subst (λ n. EndsWith answer went c.args.most (going_on here k) (shown_of q answer (counted answer k)) taken taken n faults) i.faults
+                (ends answer went c.args.most (going_on here k) (shown_of q answer (counted answer k)) taken taken faults faults c.in_default.not-Went below h);
+          };
+      later = let same = i.faults in omega (arith, same);
+    }
+
+-- and where none did, a step elsewhere may come
+pub loop-went-preserved : goal.loop-went-preserved
+loop-went-preserved g c =
+    let i = c.loop-went.invariant in
+    let x = c.execute_code-executed in
+    record {
+      there = (
+        i.there.0,
+        then_executed (going_on (g.P.Stepping.inner c.args.processor.now) c.args.steps) (g.P.Stepping.inner c.loop-went.processor) (g.P.Stepping.inner x.new.processor) c.args.steps c.loop-went.went
+            (c.args.most - c.loop-went.went) x.result.went x.result.answer i.there.0 i.there.1 c.in-Went.is x.ensures,
+        i.there.2,
+      );
+      faults = i.faults;
+      within = let few = x.ensures.few in omega (arith, few, c.loop-went-test.true);
+    }
+
+pub loop-went-preserved-in-Went-advance : goal.loop-went-preserved-in-Went-advance
+loop-went-preserved-in-Went-advance g c =
+    let i = c.loop-went.invariant in
+    let x = c.execute_code-executed in
+    let start = going_on (g.P.Stepping.inner c.args.processor.now) c.args.steps in
+    let p = g.P.Stepping.inner x.new.processor in
     let q = g.P.Stepping.inner c.advance.new.self in
-    let k = c.args.steps + c.loop-went.went in
+    let went = c.loop-went.went + x.result.went in
+    let k = c.args.steps + went in
+    let taken = g.O.Sink.taken c.loop-went.out in
+    let taken' = g.O.Sink.taken c.advance.new.out in
+    let faults = g.O.Sink.faults c.loop-went.out in
+    let faults' = g.O.Sink.faults c.advance.new.out in
+    let there = then_executed start (g.P.Stepping.inner c.loop-went.processor) p c.args.steps c.loop-went.went (c.args.most - c.loop-went.went) x.result.went x.result.answer i.there.0 i.there.1 c.in-Went.is x.ensures in
+    let says = subst (λ a. StepSays (effect_in p) p q taken taken' faults faults' a) c.in-Went-advance.is c.advance.ensures.says in
+    let h = shows p q k taken taken' faults faults' cpu.Went says in
+    let one : k + 1 ≡ c.args.steps + (went + 1) = omega arith in
+    let at = then_at start (going_on p k) (shown_of q cpu.Went (k + 1)) went i.there.0 there refl h.1 in
+    record {
+      there = (
+        i.there.0 ++ (effect_in p).written,
+        subst (λ n. IsAt start (shown_of q cpu.Went n) (went + 1) (i.there.0 ++ (effect_in p).written)) one at,
+        Appends-trans _ _ _ i.there.0 (effect_in p).written i.there.2 h.2,
+      );
+      faults = h.3 ∙ i.faults;
+      within = omega (arith, c.if-went-most.true);
+    }
+
+-- the step elsewhere came to another answer
+pub returns-in_default-advance : goal.returns-in_default-advance
+returns-in_default-advance g c =
+    let i = c.loop-went.invariant in
+    let x = c.execute_code-executed in
+    let start = going_on (g.P.Stepping.inner c.args.processor.now) c.args.steps in
+    let p = g.P.Stepping.inner x.new.processor in
+    let q = g.P.Stepping.inner c.advance.new.self in
+    let went = c.loop-went.went + x.result.went in
+    let k = c.args.steps + went in
     let answer = c.advance.result in
     let taken = g.O.Sink.taken c.loop-went.out in
     let taken' = g.O.Sink.taken c.advance.new.out in
     let faults = g.O.Sink.faults c.loop-went.out in
     let faults' = g.O.Sink.faults c.advance.new.out in
+    let there = then_executed start (g.P.Stepping.inner c.loop-went.processor) p c.args.steps c.loop-went.went (c.args.most - c.loop-went.went) x.result.went x.result.answer i.there.0 i.there.1 c.in-Went.is x.ensures in
     let h = shows p q k taken taken' faults faults' answer c.advance.ensures.says in
-    let last = ends answer c.loop-went.went c.args.most (going_on p k) (shown_of q answer (counted answer k)) taken taken' faults faults' c.in_default.not-Went c.loop-went-test.true h in
-    let counts = subst (λ n. EndsWith answer c.loop-went.went c.args.most (going_on p k) (shown_of q answer n) taken taken' faults faults') (sym c.behind.ensures) last in
     record {
-      says = record {
-        went = c.loop-went.went;
-        here = going_on p k;
-        out = i.there.0;
-        between = taken;
-        at = i.there.1;
-        going = refl;
-        steps = refl;
-        written = i.there.2;
-        ends = subst (λ n. EndsWith answer c.loop-went.went c.args.most (going_on p k) (shown_of q answer c.behind.result) taken taken' n faults') i.faults counts;
-      };
+      says = subst (λ (z : CpuStep × ℕ). Advances start (shown_of q z.0 z.1) c.args.most (g.O.Sink.taken c.args.out.now) taken' (g.O.Sink.faults c.args.out.now) faults' z.0)
+          (λ j. (sym c.stopped-in_default-advance.ensures.answer j, sym c.stopped-in_default-advance.ensures.steps j)) record {
+            went = went;
+            here = going_on p k;
+            out = i.there.0;
+            between = taken;
+            at = there;
+            going = refl;
+            steps = refl;
+            written = i.there.2;
+            ends = subst (λ n. EndsWith answer went c.args.most (going_on p k) (shown_of q answer (counted answer k)) taken taken' n faults') i.faults
+                (ends answer went c.args.most (going_on p k) (shown_of q answer (counted answer k)) taken taken' faults faults' c.in_default-advance.not-Went c.if-went-most.true h);
+          };
       later = subst (λ n. n ≤ faults') i.faults c.advance.ensures.later;
-    }
-
-pub loop-went-preserved : goal.loop-went-preserved
-loop-went-preserved g c =
-    let i = c.loop-went.invariant in
-    let p = g.P.Stepping.inner c.loop-went.processor in
-    let q = g.P.Stepping.inner c.advance.new.self in
-    let k = c.args.steps + c.loop-went.went in
-    let taken = g.O.Sink.taken c.loop-went.out in
-    let taken' = g.O.Sink.taken c.advance.new.out in
-    let faults = g.O.Sink.faults c.loop-went.out in
-    let faults' = g.O.Sink.faults c.advance.new.out in
-    let says = subst (λ a. StepSays (effect_in p) p q taken taken' faults faults' a) c.in-Went.is c.advance.ensures.says in
-    let h = shows p q k taken taken' faults faults' cpu.Went says in
-    let one : k + 1 ≡ c.args.steps + (c.loop-went.went + 1) = omega arith in
-    let at = then_at (going_on (g.P.Stepping.inner c.args.processor.now) c.args.steps) (going_on p k) (shown_of q cpu.Went (k + 1)) c.loop-went.went i.there.0 i.there.1 refl h.1 in
-    record {
-      there = (
-        i.there.0 ++ (effect_in p).written,
-        subst (λ n. IsAt (going_on (g.P.Stepping.inner c.args.processor.now) c.args.steps) (shown_of q cpu.Went n) (c.loop-went.went + 1) (i.there.0 ++ (effect_in p).written)) one at,
-        Appends-trans _ _ _ i.there.0 (effect_in p).written i.there.2 h.2,
-      );
-      faults = h.3 ∙ i.faults;
-      within = omega (arith, c.loop-went-test.true);
     }
 
 pub returns-clause-says : goal.returns-clause-says
