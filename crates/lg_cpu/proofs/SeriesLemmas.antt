@@ -1,11 +1,11 @@
 -- One more of many steps.
 use Rattle.std.proofs.Common.{◌≡◌, ◌≢◌, ℕ, zero, suc, ◌+◌, ◌<◌, List, [], ◌++◌, Option, sym, ap, ap₂, ◌∙◌, refl, subst, arith, append-nil}
 use Rattle.lg_base.specs.Runs.{iter}
-use Rattle.lg_cpu.specs.Answers.{progress_of, counted}
+use Rattle.lg_cpu.specs.Answers.{answer_of, progress_of, counted}
 use Rattle.lg_cpu.specs.Machines.{Inner, Comes, Does, Fixed, Shown, StepSays, StepShows, after_step, effect_in, run_of, shown_of}
 use Rattle.lg_cpu.specs.Series.{EndsWith, Executes, IsAt, LeadsOver, StopsWith, effect_at, going_on, run_from}
 use Rattle.lg_cpu.specs.States.{CpuState}
-use Rattle.lg_cpu.specs.Steps.{Effect, after, on_going, stepped}
+use Rattle.lg_cpu.specs.Steps.{Effect, Run, after, on_going, stepped}
 use Rattle.lg_cpu.specs.Targets.{effect_of, machine_of}
 use Rattle.lg_cpu.specs.declared.answer.CpuStep.{CpuStep}
 use Rattle.lg_cpu.specs.declared.answer.CpuStep.TheVariants as cpu
@@ -130,3 +130,34 @@ pub then_executed : (start : Shown) (p q : Inner) (steps n most m : ℕ) (answer
 then_executed start p q steps n most m answer out at is h =
     subst (λ x. IsAt start (going_on x (steps + (n + m))) (n + m) out) (sym (none_stopped answer m most h.here q is h.stops))
     (then_leads start p h.here (steps + n) (steps + (n + m)) n m out at h.leads)
+
+-- ---- one instruction of the code
+none_led : (old here : Inner) → LeadsOver old here 0 → here ≡ old
+none_led old here h =
+    let same = h.stands [] ∙ iter_none (machine_of old.fixed.target old.fixed.code old.fixed.trash).step (run_of (going_on old 0) []) in
+    λ i. record { state = (ap (λ (r : Run CpuState). r.state) same) i; fixed = h.fixed i }
+
+one_led : (old here : Inner) → LeadsOver old here 1 → Does (effect_in old) old here cpu.Went
+one_led old here h =
+    let step = (machine_of old.fixed.target old.fixed.code old.fixed.trash).step in
+    let same = h.stands [] ∙ (iter_more step 0 (run_of (going_on old 0) []) ∙ ap step (iter_none step (run_of (going_on old 0) []))) in
+    (ap (λ (r : Run CpuState). answer_of r.progress) same, ap (λ (r : Run CpuState). r.state) same, h.fixed, sym (ap (λ (r : Run CpuState). r.out) same))
+
+-- where it went, it did what the step does
+pub one_went : (old new : Inner) (answer : CpuStep) (m : ℕ) → m ≡ 1 → Executes old new 1 answer m → Does (effect_in old) old new cpu.Went
+one_went old new answer m is h = by answer (one_led old h.here (subst (LeadsOver old h.here) is h.leads)) h.stops
+  where
+    by : (a : CpuStep) → Does (effect_in old) old h.here cpu.Went → StopsWith a m 1 h.here new → Does (effect_in old) old new cpu.Went
+    by cpu.Went d stop = subst (λ (x : Inner). Does (effect_in old) old x cpu.Went) (sym stop) d
+    by (cpu.Ended status) d stop = let less = stop.0 in absurd (omega (arith, is, less))
+    by (cpu.Fault kind) d stop = let less = stop.0 in absurd (omega (arith, is, less))
+    by cpu.WriteFault d stop = let less = stop.0 in absurd (omega (arith, is, less))
+
+-- where none went, nothing changed
+pub none_went : (old new : Inner) (answer : CpuStep) (m : ℕ) → m ≡ 0 → Executes old new 1 answer m → answer ≡ cpu.Went → new ≡ old
+none_went old new answer m is h went = none_stopped answer m 1 h.here new went h.stops ∙ none_led old h.here (subst (LeadsOver old h.here) is h.leads)
+
+-- or the first came to another answer
+pub none_but_one : (old new : Inner) (answer : CpuStep) (m : ℕ) → m ≡ 0 → Executes old new 1 answer m → answer ≢ cpu.Went → Does (effect_in old) old new answer
+none_but_one old new answer m is h other =
+    subst (λ (x : Inner). Does (effect_in x) x new answer) (none_led old h.here (subst (LeadsOver old h.here) is h.leads)) (one_stopped answer m 1 h.here new other h.stops).1

@@ -7,7 +7,7 @@ use crate::answer::CpuStep;
 use crate::board::Board;
 use crate::decode_cache::DecodeCache;
 use crate::riscv64::Riscv64;
-use crate::series::{Advanced, advance};
+use crate::series::{Advanced, advance, step};
 use crate::x86_64::X86_64;
 use lg_base::{CodeBytes, Flags, OutOfMemory, Target};
 use lg_io::Sink;
@@ -101,9 +101,9 @@ impl Processor {
         ensures later { O.faults out.old ≤ O.faults out.new }
     {
         match self {
-            Processor::X86_64(p) => p.step(out),
-            Processor::Aarch64(p) => p.step(out),
-            Processor::Riscv64(p) => p.step(out),
+            Processor::X86_64(p) => step(p, out),
+            Processor::Aarch64(p) => step(p, out),
+            Processor::Riscv64(p) => step(p, out),
         }
     }
 

@@ -157,20 +157,19 @@ impl X86_64 {
         }
     }
 
-    // Takes a step where no instruction is read: faults, or runs a host function. Its outcome goes through a reference: a result would meet that of an
-    // instruction, and the compiler would test both again after each step.
+    /// Takes a step where no instruction is read: faults, or runs a host function.
     #[inline(never)]
-    fn step_elsewhere<O: Sink>(&mut self, out: &mut O, answer: &mut CpuStep)
+    pub fn step_elsewhere<O: Sink>(&mut self, out: &mut O) -> CpuStep
         requires { in_code self.old.code self.old.pc ≡ true → front_of (drop (self.old.pc - code_base) self.old.code) ≡ None }
         ensures says { StepSays (effect_in (x86_inner self.old)) (x86_inner self.old) (x86_inner self.new)
-            (O.taken out.old) (O.taken out.new) (O.faults out.old) (O.faults out.new) answer.new }
+            (O.taken out.old) (O.taken out.new) (O.faults out.old) (O.faults out.new) result }
         ensures later { O.faults out.old ≤ O.faults out.new }
     {
-        *answer = if self.code.is_code(self.pc) {
+        if self.code.is_code(self.pc) {
             CpuStep::Fault(FaultKind::Decode)
         } else {
             self.step_outside(out)
-        };
+        }
     }
 
     /// Executes the instruction at the program counter, and returns what it came to; None where none is read there. It writes nothing.
@@ -183,33 +182,6 @@ impl X86_64 {
         match self.code.find(self.pc) {
             Some((instr, len)) => Some(self.execute(instr, len)),
             None => None,
-        }
-    }
-
-    // The same by a call, so that what executes instructions stands twice in a program, here and in the loop over code, and not once for each sink.
-    #[inline(never)]
-    fn step_code_once(&mut self) -> Option<CpuStep>
-        ensures some { IfSome result (λ answer. Does (effect_in (x86_inner self.old)) (x86_inner self.old) (x86_inner self.new) answer) }
-        ensures same { IfNone result (x86_inner self.new ≡ x86_inner self.old) }
-        ensures none { IfNone result (in_code self.new.code self.new.pc ≡ true → front_of (drop (self.new.pc - code_base) self.new.code) ≡ None) }
-    {
-        self.step_code()
-    }
-
-    /// Takes one step, whether the run is over or not.
-    #[inline(always)]
-    pub fn step<O: Sink>(&mut self, out: &mut O) -> CpuStep
-        ensures says { StepSays (effect_in (x86_inner self.old)) (x86_inner self.old) (x86_inner self.new)
-            (O.taken out.old) (O.taken out.new) (O.faults out.old) (O.faults out.new) result }
-        ensures later { O.faults out.old ≤ O.faults out.new }
-    {
-        match self.step_code_once() {
-            Some(answer) => answer,
-            None => {
-                let mut answer = CpuStep::Went;
-                self.step_elsewhere(out, &mut answer);
-                answer
-            }
         }
     }
 }

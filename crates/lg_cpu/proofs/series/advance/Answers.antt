@@ -27,14 +27,14 @@ returns-in_default g c =
     let i = c.loop-went.invariant in
     let x = c.execute_code-executed in
     let start = going_on (g.P.Stepping.inner c.args.processor.now) c.args.steps in
-    let here = x.ensures.here in
+    let here = x.ensures.executes.here in
     let q = g.P.Stepping.inner x.new.processor in
     let went = c.loop-went.went + x.result.went in
     let k = c.args.steps + went in
     let answer = x.result.answer in
     let taken = g.O.Sink.taken c.loop-went.out in
     let faults = g.O.Sink.faults c.loop-went.out in
-    let stop = one_stopped answer x.result.went (c.args.most - c.loop-went.went) here q c.in_default.not-Went x.ensures.stops in
+    let stop = one_stopped answer x.result.went (c.args.most - c.loop-went.went) here q c.in_default.not-Went x.ensures.executes.stops in
     let below : went < c.args.most = let less = stop.0 in omega (arith, less) in
     let h = shows here q k taken taken faults faults answer (says-quiet (effect_in here) here q taken faults answer stop.1) in
     record {
@@ -44,7 +44,7 @@ returns-in_default g c =
             here = going_on here k;
             out = i.there.0;
             between = taken;
-            at = then_leads start (g.P.Stepping.inner c.loop-went.processor) here (c.args.steps + c.loop-went.went) k c.loop-went.went x.result.went i.there.0 i.there.1 x.ensures.leads;
+            at = then_leads start (g.P.Stepping.inner c.loop-went.processor) here (c.args.steps + c.loop-went.went) k c.loop-went.went x.result.went i.there.0 i.there.1 x.ensures.executes.leads;
             going = refl;
             steps = refl;
             written = i.there.2;
@@ -63,28 +63,28 @@ loop-went-preserved g c =
       there = (
         i.there.0,
         then_executed (going_on (g.P.Stepping.inner c.args.processor.now) c.args.steps) (g.P.Stepping.inner c.loop-went.processor) (g.P.Stepping.inner x.new.processor) c.args.steps c.loop-went.went
-            (c.args.most - c.loop-went.went) x.result.went x.result.answer i.there.0 i.there.1 c.in-Went.is x.ensures,
+            (c.args.most - c.loop-went.went) x.result.went x.result.answer i.there.0 i.there.1 c.in-Went.is x.ensures.executes,
         i.there.2,
       );
       faults = i.faults;
-      within = let few = x.ensures.few in omega (arith, few, c.loop-went-test.true);
+      within = let few = x.ensures.executes.few in omega (arith, few, c.loop-went-test.true);
     }
 
-pub loop-went-preserved-in-Went-advance : goal.loop-went-preserved-in-Went-advance
-loop-went-preserved-in-Went-advance g c =
+pub loop-went-preserved-in-Went-step_elsewhere : goal.loop-went-preserved-in-Went-step_elsewhere
+loop-went-preserved-in-Went-step_elsewhere g c =
     let i = c.loop-went.invariant in
     let x = c.execute_code-executed in
     let start = going_on (g.P.Stepping.inner c.args.processor.now) c.args.steps in
     let p = g.P.Stepping.inner x.new.processor in
-    let q = g.P.Stepping.inner c.advance.new.self in
+    let q = g.P.Stepping.inner c.step_elsewhere.new.self in
     let went = c.loop-went.went + x.result.went in
     let k = c.args.steps + went in
     let taken = g.O.Sink.taken c.loop-went.out in
-    let taken' = g.O.Sink.taken c.advance.new.out in
+    let taken' = g.O.Sink.taken c.step_elsewhere.new.out in
     let faults = g.O.Sink.faults c.loop-went.out in
-    let faults' = g.O.Sink.faults c.advance.new.out in
-    let there = then_executed start (g.P.Stepping.inner c.loop-went.processor) p c.args.steps c.loop-went.went (c.args.most - c.loop-went.went) x.result.went x.result.answer i.there.0 i.there.1 c.in-Went.is x.ensures in
-    let says = subst (λ a. StepSays (effect_in p) p q taken taken' faults faults' a) c.in-Went-advance.is c.advance.ensures.says in
+    let faults' = g.O.Sink.faults c.step_elsewhere.new.out in
+    let there = then_executed start (g.P.Stepping.inner c.loop-went.processor) p c.args.steps c.loop-went.went (c.args.most - c.loop-went.went) x.result.went x.result.answer i.there.0 i.there.1 c.in-Went.is x.ensures.executes in
+    let says = subst (λ a. StepSays (effect_in p) p q taken taken' faults faults' a) c.in-Went-step_elsewhere.is c.step_elsewhere.ensures.says in
     let h = shows p q k taken taken' faults faults' cpu.Went says in
     let one : k + 1 ≡ c.args.steps + (went + 1) = omega arith in
     let at = then_at start (going_on p k) (shown_of q cpu.Went (k + 1)) went i.there.0 there refl h.1 in
@@ -99,25 +99,25 @@ loop-went-preserved-in-Went-advance g c =
     }
 
 -- the step elsewhere came to another answer
-pub returns-in_default-advance : goal.returns-in_default-advance
-returns-in_default-advance g c =
+pub returns-in_default-step_elsewhere : goal.returns-in_default-step_elsewhere
+returns-in_default-step_elsewhere g c =
     let i = c.loop-went.invariant in
     let x = c.execute_code-executed in
     let start = going_on (g.P.Stepping.inner c.args.processor.now) c.args.steps in
     let p = g.P.Stepping.inner x.new.processor in
-    let q = g.P.Stepping.inner c.advance.new.self in
+    let q = g.P.Stepping.inner c.step_elsewhere.new.self in
     let went = c.loop-went.went + x.result.went in
     let k = c.args.steps + went in
-    let answer = c.advance.result in
+    let answer = c.step_elsewhere.result in
     let taken = g.O.Sink.taken c.loop-went.out in
-    let taken' = g.O.Sink.taken c.advance.new.out in
+    let taken' = g.O.Sink.taken c.step_elsewhere.new.out in
     let faults = g.O.Sink.faults c.loop-went.out in
-    let faults' = g.O.Sink.faults c.advance.new.out in
-    let there = then_executed start (g.P.Stepping.inner c.loop-went.processor) p c.args.steps c.loop-went.went (c.args.most - c.loop-went.went) x.result.went x.result.answer i.there.0 i.there.1 c.in-Went.is x.ensures in
-    let h = shows p q k taken taken' faults faults' answer c.advance.ensures.says in
+    let faults' = g.O.Sink.faults c.step_elsewhere.new.out in
+    let there = then_executed start (g.P.Stepping.inner c.loop-went.processor) p c.args.steps c.loop-went.went (c.args.most - c.loop-went.went) x.result.went x.result.answer i.there.0 i.there.1 c.in-Went.is x.ensures.executes in
+    let h = shows p q k taken taken' faults faults' answer c.step_elsewhere.ensures.says in
     record {
       says = subst (λ (z : CpuStep × ℕ). Advances start (shown_of q z.0 z.1) c.args.most (g.O.Sink.taken c.args.out.now) taken' (g.O.Sink.faults c.args.out.now) faults' z.0)
-          (λ j. (sym c.stopped-in_default-advance.ensures.answer j, sym c.stopped-in_default-advance.ensures.steps j)) record {
+          (λ j. (sym c.stopped-in_default-step_elsewhere.ensures.answer j, sym c.stopped-in_default-step_elsewhere.ensures.steps j)) record {
             went = went;
             here = going_on p k;
             out = i.there.0;
@@ -127,10 +127,13 @@ returns-in_default-advance g c =
             steps = refl;
             written = i.there.2;
             ends = subst (λ n. EndsWith answer went c.args.most (going_on p k) (shown_of q answer (counted answer k)) taken taken' n faults') i.faults
-                (ends answer went c.args.most (going_on p k) (shown_of q answer (counted answer k)) taken taken' faults faults' c.in_default-advance.not-Went c.if-went-most.true h);
+                (ends answer went c.args.most (going_on p k) (shown_of q answer (counted answer k)) taken taken' faults faults' c.in_default-step_elsewhere.not-Went c.if-went-most.true h);
           };
-      later = subst (λ n. n ≤ faults') i.faults c.advance.ensures.later;
+      later = subst (λ n. n ≤ faults') i.faults c.step_elsewhere.ensures.later;
     }
+
+pub step_elsewhere-requires : goal.step_elsewhere-requires
+step_elsewhere-requires g c = c.execute_code-executed.ensures.elsewhere c.in-Went.is (let less = c.if-went-most.true in omega (arith, less))
 
 pub returns-clause-says : goal.returns-clause-says
 returns-clause-says g c =
