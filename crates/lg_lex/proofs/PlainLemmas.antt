@@ -1,5 +1,5 @@
 -- What is at the front where that is a word, a register or a decimal number.
-use Rattle.std.proofs.Common.{◌≡◌, ◌≢◌, ℕ, ◌+◌, ◌-◌, ◌*◌, ◌<◌, ◌≤◌, ◌^◌, ◌==◌, ◌||◌, Bool, true, false, cond, List, length, get_or, take, drop, refl, sym, ap, subst, ◌∙◌, arith, Option, Some, None, true≢false}
+use Rattle.std.proofs.Common.{◌≡◌, ◌≢◌, ℕ, ◌+◌, ◌-◌, ◌*◌, ◌<◌, ◌≤◌, ◌^◌, ◌==◌, ◌||◌, Bool, true, false, cond, List, [], ◌∷◌, length, get_or, take, drop, refl, sym, ap, subst, ◌∙◌, arith, Option, Some, None, true≢false}
 use Rattle.std.specs.Prelude.{IfSome}
 use Rattle.std.specs.Char.{digit_value, is_digit, is_ascii_digit, is_ascii_alphanumeric, is_ascii_lowercase}
 use Rattle.std.specs.Int.{is_in_range}
@@ -173,6 +173,35 @@ pub decimal_ends : (bytes : List ℕ) (n value : ℕ) (found : Option Literal) �
     → IfSome found (λ l. (l ≡ record { len = n; value = value }) × (is_word_byte (get_or bytes n 0) ≡ false)) → IfSome found (λ l. number_at bytes ≡ Some l)
 decimal_ends bytes n value None inside digit zero are is = tt
 decimal_ends bytes n value (Some l) inside digit zero are is = decimal_is bytes n value inside digit zero is.1 are ∙ ap (λ x. Some x) (sym is.0)
+
+no_tail : (b : ℕ) → is_word_byte b ≡ false → (is_digit b 8 ≡ false) × ((b == 120) ≡ false)
+no_tail b h = grind (arith, nat_tests)
+
+-- a digit is alone if no digit is after it
+one_digit : (b : ℕ) (bytes : List ℕ) → is_digit b 8 ≡ true → is_digit (get_or bytes 0 0) 8 ≡ false → prefix_len (λ x. is_digit x 8) (b ∷ bytes) ≡ 1
+one_digit b [] first next = rw first refl
+one_digit b (x ∷ bytes) first next = rw (first, next) refl
+
+-- nor is a letter after it
+no_letter : (bytes : List ℕ) → is_suffix_letter (get_or bytes 0 0) ≡ false → prefix_len is_suffix_letter bytes ≡ 0
+no_letter [] next = refl
+no_letter (x ∷ bytes) next = rw next refl
+
+zero_number : (bytes : List ℕ) → is_word_byte (get_or bytes 0 0) ≡ false → number_at (48 ∷ bytes) ≡ Some (record { len = 1; value = 0 })
+unfolding number_at unsigned_at magnitude_at digits_at suffix_at narrowed
+zero_number bytes end =
+    let stops = ends (get_or bytes 0 0) end in
+    let tail = no_tail (get_or bytes 0 0) end in
+    rw (tail.1, one_digit 48 bytes refl tail.0, no_letter bytes stops.1, stops.2) refl
+
+-- 0 alone
+pub zero_is : (bytes : List ℕ) → get_or bytes 0 0 ≡ 48 → is_word_byte (get_or bytes 1 0) ≡ false → number_at bytes ≡ Some (record { len = 1; value = 0 })
+zero_is [] first end = absurd (omega (arith, first))
+zero_is (b ∷ bytes) first end = ap (λ x. number_at (x ∷ bytes)) first ∙ zero_number bytes end
+
+pub zero_ends : (bytes : List ℕ) (found : Option Literal) → get_or bytes 0 0 ≡ 48 → IfSome found (λ l. (l ≡ record { len = 1; value = 0 }) × (is_word_byte (get_or bytes 1 0) ≡ false)) → IfSome found (λ l. number_at bytes ≡ Some l)
+zero_ends bytes None first is = tt
+zero_ends bytes (Some l) first is = zero_is bytes first is.1 ∙ ap (λ x. Some x) (sym is.0)
 
 -- ---- the place after such a token
 

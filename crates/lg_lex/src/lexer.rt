@@ -88,13 +88,14 @@ impl<'a> Lexer<'a> {
                 }))
             }
             _ => {
+                // The result is not returned as it is: then the compiler keeps that of the other arm in registers.
                 let next = self.any_token()?;
                 Ok(next)
             }
         }
     }
 
-    // The next token, whatever is at the place.
+    // The next token, whatever it is. Not inlined: few tokens are found here.
     #[inline(never)]
     fn any_token(&mut self) -> Result<Option<Token>, Refusal>
         ensures { Gives self.old result self.new }

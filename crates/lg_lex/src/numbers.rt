@@ -149,14 +149,14 @@ fn ended(len: usize, value: u64, b: u8) -> Option<Literal>
     }
 }
 
-/// Returns the number at the front if it is decimal, without a sign or a suffix. `None` does not say that there is none: it is also returned for a number
-/// that begins with 0, ends the text, or has a digit after a value above 2^60.
+/// Returns the number at the front if it is decimal, without a sign or a suffix. `None` does not say that there is none: it is also returned where a number
+/// ends the text, is hexadecimal or octal, or has a digit after a value above 2^60.
 pub(crate) fn decimal(bytes: &[u8]) -> Option<Literal>
     requires { is_ascii_digit (slice_index bytes.now 0) ≡ true }
     ensures value { IfSome result (λ found. number_at bytes.now ≡ Some found) }
 {
     if byte_at(bytes, 0) == b'0' {
-        return None;
+        return ended(1, 0, byte_at(bytes, 1));
     }
     let mut value = 0u64;
     for (i, b) in bytes.iter().enumerate() {
