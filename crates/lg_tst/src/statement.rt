@@ -1,7 +1,8 @@
 // The statements of a text, by the token that they begin with.
 
-ghost use Rattle.std.specs.Prelude.{◌≡◌, ◌≤◌};
+ghost use Rattle.std.specs.Prelude.{◌≡◌, ◌≤◌, None};
 ghost use Rattle.lg_tst.specs.Statements.{code_word, word_in, word_statement, directive_statement, statement_of, bytes_in, is_number, is_value};
+ghost use Rattle.lg_tst.specs.Words.{op_of};
 
 use crate::words::{Directive, is_float_word, op_of};
 use lg_base::RefusalKind;
@@ -54,22 +55,22 @@ pub enum Statement {
     Instruction(Op),
 }
 
-// What a word begins in the code section.
-fn code_word(word: &[u8]) -> Result<Statement, RefusalKind>
+// What a word that names no operation begins in the code section.
+fn other_code_word(word: &[u8]) -> Result<Statement, RefusalKind>
+    requires { op_of word.now ≡ None }
     ensures { result ≡ code_word word.now }
 {
     if word == b"name".as_slice() {
-        return Ok(Statement::Name);
-    }
-    match op_of(word) {
-        Some(op) => Ok(Statement::Instruction(op)),
-        None => Err(RefusalKind::UnknownName),
+        Ok(Statement::Name)
+    } else {
+        Err(RefusalKind::UnknownName)
     }
 }
 
-// What a word begins, looked at from the first cause on.
+// What a word begins, looked at from the first cause on. In the code section it names no operation.
 #[inline(never)]
 fn other_statement(section: Section, word: &[u8]) -> Result<Statement, RefusalKind>
+    requires { section ≡ Section.Code → op_of word.now ≡ None }
     ensures { result ≡ word_statement section word.now }
 {
     if is_float_word(word) {
@@ -79,7 +80,7 @@ fn other_statement(section: Section, word: &[u8]) -> Result<Statement, RefusalKi
         return Ok(Statement::Note);
     }
     match section {
-        Section::Code => code_word(word),
+        Section::Code => other_code_word(word),
         Section::Data => Err(RefusalKind::UnknownName),
     }
 }
