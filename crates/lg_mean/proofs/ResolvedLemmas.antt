@@ -1,6 +1,6 @@
 -- Resolved nodes go on as the nodes for which they stand.
-use Rattle.std.proofs.Common.{◌≡◌, ◌<◌, ◌⊎◌, inl, inr, ⊎_elim, ℕ, zero, suc, ◌+◌, Bool, true, false, List, [], ◌∷◌, ◌++◌, Option, Some, None, refl, sym, ap, ◌∙◌, subst, length}
-use Rattle.std.specs.Prelude.{IfNone, IfSome, if◌then◌else◌, slice_get}
+use Rattle.std.proofs.Common.{◌≡◌, ◌<◌, ◌⊎◌, inl, inr, ⊎_elim, ℕ, zero, suc, Bool, true, false, List, [], ◌∷◌, ◌++◌, Option, Some, None, refl, sym, ap, ◌∙◌, subst, length}
+use Rattle.std.specs.Prelude.{IfNone, IfSome, slice_get}
 use Rattle.std.proofs.KnownBytes.{Appends-nil}
 use Rattle.std.proofs.lemmas.Option.{same_Some}
 use Rattle.std.specs.Option.{option_and_then}
@@ -13,17 +13,17 @@ use Rattle.lg_op.specs.declared.op.StoreType.{StoreType}
 use Rattle.lg_op.specs.declared.op.Addressing.{Addressing}
 use Rattle.lg_op.specs.declared.op.LastOperand.{LastOperand}
 use Rattle.lg_node.specs.declared.place.Place.{Place}
-use Rattle.lg_meaning.specs.States.{State, value}
+use Rattle.lg_meaning.specs.States.{State}
 use Rattle.lg_node.specs.Nodes.{LabelledNodes}
 use Rattle.lg_node.specs.Shapes.{TextShape}
 use Rattle.lg_meaning.specs.Texts.{text, step, step_at}
-use Rattle.lg_meaning.specs.Steps.{Outcome, Goes, Ends, Undefined, Text, need, to, branch, is_indexed, sum_value, address, stored_operand, operand_at, node_of_label, branch_step, store_step, store_to, node_step}
+use Rattle.lg_meaning.specs.Steps.{Outcome, Goes, Ends, Undefined, Text, need, is_indexed, operand_at, node_of_label, branch_step, store_step, store_to, node_step}
 use Rattle.lg_mean.specs.declared.resolved.Act.TheVariants as act
 use Rattle.lg_mean.specs.declared.resolved.ResolvedNode.{ResolvedNode}
 use Rattle.lg_mean.specs.declared.mean_step.MeanStep.{MeanStep}
 use Rattle.lg_mean.specs.declared.mean_step.MeanStep.TheVariants as mean
 use Rattle.lg_mean.specs.Says.{Does, Steps}
-use Rattle.lg_mean.specs.Resolved.{IsPlaced, IsRegister, IsSource, IsResolved, IsPairOf, acts, resolved_step, register_at, source_at}
+use Rattle.lg_mean.specs.Resolved.{IsRegister, IsSource, IsResolved, acts, resolved_step, register_at, source_at}
 
 -- ---- whatever the places and addresses
 pub with_places : (A : List ℕ) (places : List (Option Place)) (n : Node) (o : Option ResolvedNode) → IfSome o (λ q. (t : Text) → t.addresses ≡ A → IsResolved t n q) → IfSome o (λ q. (t : Text) → t.addresses ≡ A → t.places ≡ places → IsResolved t n q)

@@ -1,5 +1,5 @@
 -- One more step of a run.
-use Rattle.std.proofs.Common.{◌≡◌, ◌<◌, ◌≤◌, ℕ, ◌+◌, List, [], ◌++◌, Option, None, IfNone, refl, sym, ap, ◌∙◌, subst, inl, inr, append-nil, take, arith}
+use Rattle.std.proofs.Common.{◌≡◌, ◌<◌, ◌≤◌, ℕ, zero, suc, ◌+◌, List, [], ◌++◌, Option, None, IfNone, refl, sym, ap, ◌∙◌, subst, inl, inr, append-nil, take, arith}
 use Rattle.std.specs.Io.KnownBytes.{Appends}
 use Rattle.std.proofs.KnownBytes.{Appends-trans, Appends-nil}
 use Rattle.lg_base.specs.Runs.{iter}
@@ -9,7 +9,7 @@ use Rattle.lg_node.specs.Shapes.{TextShape}
 use Rattle.lg_meaning.specs.States.{State}
 use Rattle.lg_meaning.specs.Steps.{Outcome, Goes, Ends, Undefined}
 use Rattle.lg_meaning.specs.Texts.{step}
-use Rattle.lg_meaning.specs.Means.{Run, run_at, behind, mean_from}
+use Rattle.lg_meaning.specs.Means.{Run, run_at, run_step, behind, mean_from}
 use Rattle.lg_meaning.specs.Laws.{StepsAreMeans}
 use Rattle.lg_mean.specs.declared.mean_step.MeanStep.{MeanStep}
 use Rattle.lg_mean.specs.declared.mean_step.MeanStep.TheVariants as mean
@@ -17,7 +17,7 @@ use Rattle.lg_mean.specs.declared.run.RunEnd.TheVariants as runs_end
 use Rattle.lg_mean.specs.Says.{Steps}
 use Rattle.lg_mean.specs.Portables.{counts, over_of}
 use Rattle.lg_mean.specs.Programs.{LabelTable}
-use Rattle.lg_mean.specs.Runs.{HasGoneOn, FailsToWrite, EndsAfter, IsUndefinedAfter, ComesTo}
+use Rattle.lg_mean.specs.Runs.{GoesFor, HasGoneOn, FailsToWrite, EndsAfter, IsUndefinedAfter, ComesTo}
 
 -- what an answer of a step says of a run that went on after k steps
 abbrev pub Then : (ℕ → Run) → ℕ → (line : State → ℕ) → MeanStep → State → (out out' : Option (List ℕ)) → (faults faults' : ℕ) → Type 0
@@ -81,3 +81,46 @@ counted over before after answer answer' running is h = subst (λ (a : MeanStep)
 -- the answer that a machine repeats after a step
 pub running_on : (over over' : Option MeanStep) (answer answer' : MeanStep) → over ≡ None → answer ≡ answer' → IfNone over (over' ≡ over_of answer) → over' ≡ over_of answer'
 running_on over over' answer answer' running is h = subst (λ (a : MeanStep). over' ≡ over_of a) is (subst (λ (o : Option MeanStep). IfNone o (over' ≡ over_of answer)) running h)
+
+-- ---- steps that write nothing
+pub goes_none : (f : State → Outcome) (s : State) → GoesFor f 0 s s
+unfolding iter
+goes_none f s bytes = refl
+
+-- one more
+pub goes_more : (f g : State → Outcome) (n : ℕ) (s t u : State) → g ≡ f → GoesFor f n s t → g t ≡ Goes u [] → GoesFor f (n + 1) s u
+unfolding iter
+goes_more f g n s t u same h goes bytes =
+    let more : n + 1 ≡ suc n = omega arith in
+    ap (λ k. iter (run_step f) k (run_at s bytes)) more ∙ ap (run_step f) (h bytes)
+    ∙ ap (behind (run_at t bytes)) (sym (ap (λ (k : State → Outcome). k t) same) ∙ goes) ∙ ap (run_at u) (append-nil bytes)
+
+iter_plus : {S : Type 0} (step : S → S) (n m : ℕ) (s : S) → iter step (n + m) s ≡ iter step m (iter step n s)
+unfolding iter
+iter_plus step n zero s = let none : n + 0 ≡ n = omega arith in ap (λ k. iter step k s) none
+iter_plus step n (suc m) s = let more : n + suc m ≡ suc (n + m) = omega arith in ap (λ k. iter step k s) more ∙ ap step (iter_plus step n m s)
+
+-- after them the run is there
+pub goes_for : (l : LabelledNodes) (shape : TextShape) (labels labels' : LabelTable) (start : State) (k n : ℕ) (s u : State) (out out' : Option (List ℕ)) → labels' ≡ labels
+    → HasGoneOn (mean_from l shape labels.addresses start) k s out out' → GoesFor (step l shape labels'.addresses) n s u
+    → HasGoneOn (mean_from l shape labels.addresses start) (k + n) u out out'
+goes_for l shape labels labels' start k n s u out out' same g h = record {
+  bytes = g.bytes;
+  stands = iter_plus (run_step (step l shape labels.addresses)) k n (run_at start []) ∙ ap (iter (run_step (step l shape labels.addresses)) n) g.stands
+      ∙ subst (λ (t : LabelTable). GoesFor (step l shape t.addresses) n s u) same h g.bytes;
+  written = g.written;
+}
+
+-- ---- one step that writes nothing
+pub one_gone : (f : State → Outcome) (n : ℕ) (s u : State) → n ≡ 1 → GoesFor f n s u → f s ≡ Goes u []
+unfolding iter
+one_gone f n s u one h = by (f s) (subst (λ k. iter (run_step f) k (run_at s []) ≡ run_at u []) one (h []))
+  where
+    by : (o : Outcome) → behind (run_at s []) o ≡ run_at u [] → o ≡ Goes u []
+    by (Goes t bytes) e = λ i. Goes ((ap (λ (r : Run). r.state) e) i) ((ap (λ (r : Run). r.out) e) i)
+    by (Ends x) e = let no = ap (λ (r : Run). r.status) e in cc
+    by Undefined e = let no = ap (λ (r : Run). r.status) e in cc
+
+pub none_gone : (f : State → Outcome) (n : ℕ) (s u : State) → n ≡ 0 → GoesFor f n s u → u ≡ s
+unfolding iter
+none_gone f n s u none h = sym (ap (λ (r : Run). r.state) (subst (λ k. iter (run_step f) k (run_at s []) ≡ run_at u []) none (h [])))

@@ -1,9 +1,9 @@
 -- Nodes with their operands looked up, and what they do.
-use Rattle.std.specs.Prelude.{◌≡◌, ◌<◌, ℕ, ◌+◌, ◌-◌, ◌==◌, Bool, if◌then◌else◌, Option, Some, None, List}
+use Rattle.std.specs.Prelude.{◌≡◌, ◌<◌, ℕ, ◌+◌, ◌-◌, ◌==◌, if◌then◌else◌, Option, Some, None, List}
 use Rattle.lg_base.specs.Words.{add_words}
 use Rattle.lg_op.specs.declared.node.Node.{Node}
 use Rattle.lg_op.specs.declared.operand.Operand.{Operand}
-use Rattle.lg_op.specs.Operators.{binary_value, carry_in, value_with_carry, carry_made, holds, unary_value, keeps_carry, width, extended_by_type, store_width}
+use Rattle.lg_op.specs.Operators.{binary_value, carry_in, value_with_carry, carry_made, holds, unary_value, keeps_carry, width, extended_by_type}
 use Rattle.lg_meaning.specs.States.{State, value, named}
 use Rattle.lg_meaning.specs.Steps.{Outcome, Goes, Undefined, Text, need, quiet, to, on, on_with_carry, with_word, bit_word, read, store_to, operand_at, node_step}
 use Rattle.lg_mean.specs.declared.resolved.Act.{Act}

@@ -1,11 +1,11 @@
 -- Where a run of the portable machine is, in the words of the portable meaning.
 use Rattle.std.specs.Prelude.{◌≡◌, ◌<◌, ◌≤◌, ℕ, ◌+◌, List, ◌++◌, length, take, Option, Some, None, ⊤}
 use Rattle.std.specs.Io.KnownBytes.{Appends}
-use Rattle.lg_base.specs.Runs.{Ended, Bad}
+use Rattle.lg_base.specs.Runs.{Ended, Bad, iter}
 use Rattle.lg_io.specs.Counts.{Rose}
 use Rattle.lg_meaning.specs.States.{State}
-use Rattle.lg_meaning.specs.Means.{Run, run_at}
-use Rattle.lg_meaning.specs.Steps.{Ending, ending_status}
+use Rattle.lg_meaning.specs.Means.{Run, run_at, run_step}
+use Rattle.lg_meaning.specs.Steps.{Ending, Outcome, ending_status}
 use Rattle.lg_mean.specs.declared.mean_step.MeanStep.{MeanStep}
 use Rattle.lg_mean.specs.declared.mean_step.MeanStep.TheVariants as mean
 use Rattle.lg_mean.specs.declared.run.RunEnd.{RunEnd}
@@ -58,3 +58,7 @@ over_after (runs_end.Ended status) = Some (mean.Ended status)
 over_after (runs_end.Undefined line) = Some (mean.Undefined line)
 over_after runs_end.StepsOut = None
 over_after runs_end.WriteFault = Some mean.WriteFault
+
+-- this many steps of the meaning, each of which does this at a state, lead from one state to another, whatever was written before, and write nothing
+abbrev pub GoesFor : (State → Outcome) → ℕ → State → State → Type 0
+GoesFor f n s u = (bytes : List ℕ) → iter (run_step f) n (run_at s bytes) ≡ run_at u bytes

@@ -1,6 +1,6 @@
 // The portable machine with its text.
 
-ghost use Rattle.std.specs.Prelude.{◌≡◌, ◌<◌, ◌≤◌, ◌-◌, ◌+◌, ◌^◌, ◌&&◌, ℕ, length, nat_le, false, IsTrue, IfSome, IfNone, IfOk, Some, None, []};
+ghost use Rattle.std.specs.Prelude.{◌≡◌, ◌<◌, ◌≤◌, ◌-◌, ◌+◌, ◌^◌, ◌&&◌, ℕ, length, nat_le, false, true, IsTrue, IfSome, IfNone, IfOk, Some, None, []};
 ghost use Rattle.std.specs.Io.KnownBytes.{Appends};
 ghost use Rattle.lg_base.specs.Arguments.{most_args};
 ghost use Rattle.lg_node.specs.Labels.{place_of, is_entry};
@@ -9,11 +9,12 @@ ghost use Rattle.lg_meaning.specs.Fits.{Fits};
 ghost use Rattle.lg_meaning.specs.Reasons.{why};
 ghost use Rattle.lg_meaning.specs.Starts.{start_state, begins_at, entered_state, entry_after};
 ghost use Rattle.lg_meaning.specs.States.{reg};
-ghost use Rattle.lg_meaning.specs.Steps.{Undefined};
+ghost use Rattle.lg_meaning.specs.Steps.{Goes, Undefined};
 ghost use Rattle.lg_meaning.specs.Texts.{step, line_at};
 ghost use Rattle.lg_mean.specs.Machines.{state_of};
 ghost use Rattle.lg_mean.specs.Programs.{IsTableOf};
 ghost use Rattle.lg_mean.specs.Results.{word_left};
+ghost use Rattle.lg_mean.specs.Runs.{GoesFor};
 ghost use Rattle.lg_mean.specs.Says.{Steps, KeepsCount};
 ghost use Rattle.lg_mean.specs.Portables.{over_of, counts};
 ghost use Rattle.lg_va.specs.Calls.{calling_stack};
@@ -139,9 +140,60 @@ impl Portable {
         self.go(unit, shape, out)
     }
 
+    // A step of a machine that is not over, by the node with its operands looked up: whether it goes so. It writes nothing, and else nothing changes.
+    #[inline(always)]
+    fn go_resolved(&mut self, unit: &Unit, shape: &Shape) -> bool
+        requires made { IsTableOf unit.now.nodes shape.now self.old.labels }
+        requires fits { Fits unit.now.nodes shape.now (state_of self.old.machine) }
+        requires count { self.old.steps < 2 ^ 64 - 1 }
+        requires running { self.old.over ≡ None }
+        ensures goes { result ≡ true → step unit.now.nodes shape.now self.old.labels.addresses (state_of self.old.machine) ≡ Goes (state_of self.new.machine) [] }
+        ensures steps { result ≡ true → self.new.steps ≡ self.old.steps + 1 }
+        ensures stays { result ≡ false → (state_of self.new.machine ≡ state_of self.old.machine) × (self.new.steps ≡ self.old.steps) }
+        ensures fits { Fits unit.now.nodes shape.now (state_of self.new.machine) }
+        ensures over { self.new.over ≡ None }
+        ensures labels { self.new.labels ≡ self.old.labels }
+    {
+        accepted_nodes_are_well_shaped();
+        steps_keep_the_fit();
+        unit.nodes.what_holds();
+        let _ = unit.nodes.node_at(self.machine.place());
+        let node = self.labels.node(self.machine.place());
+        if self.machine.step_resolved(node) {
+            self.steps += 1;
+            return true;
+        }
+        false
+    }
+
+    // Takes steps by nodes with their operands looked up until one does not go so, and at most this many: returns how many went. It is one loop whatever sink
+    // the run writes to, and the one place of a program where such nodes are stepped.
+    #[inline(never)]
+    pub(crate) fn run_resolved(&mut self, unit: &Unit, shape: &Shape, most: u64) -> u64
+        requires made { IsTableOf unit.now.nodes shape.now self.old.labels }
+        requires fits { Fits unit.now.nodes shape.now (state_of self.old.machine) }
+        requires running { self.old.over ≡ None }
+        requires count { self.old.steps + most < 2 ^ 64 }
+        ensures few { result ≤ most }
+        ensures goes { GoesFor (step unit.now.nodes shape.now self.old.labels.addresses) result (state_of self.old.machine) (state_of self.new.machine) }
+        ensures steps { self.new.steps ≡ self.old.steps + result }
+        ensures fits { Fits unit.now.nodes shape.now (state_of self.new.machine) }
+        ensures over { self.new.over ≡ None }
+        ensures labels { self.new.labels ≡ self.old.labels }
+    {
+        let mut went = 0;
+        while went < most {
+            if !self.go_resolved(unit, shape) {
+                return went;
+            }
+            went += 1;
+        }
+        went
+    }
+
     // One step of a machine that is not over: by the node with its operands looked up where that goes, else by the node.
     #[inline(always)]
-    pub(crate) fn go<O: Sink>(&mut self, unit: &Unit, shape: &Shape, out: &mut O) -> MeanStep
+    fn go<O: Sink>(&mut self, unit: &Unit, shape: &Shape, out: &mut O) -> MeanStep
         requires made { IsTableOf unit.now.nodes shape.now self.old.labels }
         requires fits { Fits unit.now.nodes shape.now (state_of self.old.machine) }
         requires count { self.old.steps < 2 ^ 64 - 1 }
@@ -158,13 +210,7 @@ impl Portable {
         ensures later { O.faults out.old ≤ O.faults out.new }
         ensures kept { KeepsCount result (O.faults out.old) (O.faults out.new) }
     {
-        accepted_nodes_are_well_shaped();
-        steps_keep_the_fit();
-        unit.nodes.what_holds();
-        let _ = unit.nodes.node_at(self.machine.place());
-        let node = self.labels.node(self.machine.place());
-        if self.machine.step_resolved(node) {
-            self.steps += 1;
+        if self.run_resolved(unit, shape, 1) == 1 {
             return MeanStep::Went;
         }
         self.step_by_node(unit, shape, out)
@@ -172,7 +218,12 @@ impl Portable {
 
     // One step by the node that comes next.
     #[inline(never)]
-    fn step_by_node<O: Sink>(&mut self, unit: &Unit, shape: &Shape, out: &mut O) -> MeanStep
+    pub(crate) fn step_by_node<O: Sink>(
+        &mut self,
+        unit: &Unit,
+        shape: &Shape,
+        out: &mut O,
+    ) -> MeanStep
         requires made { IsTableOf unit.now.nodes shape.now self.old.labels }
         requires fits { Fits unit.now.nodes shape.now (state_of self.old.machine) }
         requires count { self.old.steps < 2 ^ 64 - 1 }

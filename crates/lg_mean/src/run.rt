@@ -53,12 +53,16 @@ impl Portable {
         ensures kept { KeepsCountAfter result (O.faults out.old) (O.faults out.new) }
     {
         steps_are_those_of_the_meaning();
-        for _turn in 0..most {
-            match self.go(unit, shape, out) {
-                MeanStep::Went => {}
-                MeanStep::Ended(status) => return RunEnd::Ended(status),
-                MeanStep::Undefined { line } => return RunEnd::Undefined { line },
-                MeanStep::WriteFault => return RunEnd::WriteFault,
+        let mut taken = 0;
+        while taken < most {
+            taken += self.run_resolved(unit, shape, most - taken);
+            if taken < most {
+                match self.step_by_node(unit, shape, out) {
+                    MeanStep::Went => taken += 1,
+                    MeanStep::Ended(status) => return RunEnd::Ended(status),
+                    MeanStep::Undefined { line } => return RunEnd::Undefined { line },
+                    MeanStep::WriteFault => return RunEnd::WriteFault,
+                }
             }
         }
         RunEnd::StepsOut

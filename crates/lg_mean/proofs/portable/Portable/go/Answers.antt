@@ -1,71 +1,47 @@
-use Rattle.std.proofs.Common.{◌≡◌, ℕ, ap, sym, ◌∙◌, subst, Some, [], IfNone}
-use Rattle.std.specs.Prelude.{slice_get}
-use Rattle.std.proofs.lemmas.Option.{same_Some}
-use Rattle.lg_op.specs.Nodes.{InForm}
-use Rattle.lg_op.specs.declared.node.Node.{Node}
+use Rattle.std.proofs.Common.{◌≡◌, Option, subst, arith, IfNone}
+use Rattle.std.proofs.lemmas.Bool.Decides.{nat_tests}
 use Rattle.lg_meaning.specs.States.{State}
-use Rattle.lg_meaning.specs.Fits.{Fits, FitsWell}
-use Rattle.lg_meaning.specs.Laws.{IsFormedAt}
-use Rattle.lg_meaning.specs.Steps.{Goes}
 use Rattle.lg_meaning.specs.Texts.{step, line_at}
+use Rattle.lg_mean.specs.declared.mean_step.MeanStep.{MeanStep}
 use Rattle.lg_mean.specs.declared.mean_step.MeanStep.TheVariants as mean
 use Rattle.lg_mean.specs.Says.{Steps}
 use Rattle.lg_mean.specs.Machines.{state_of}
-use Rattle.lg_mean.specs.Portables.{PortableState}
-use Rattle.lg_mean.specs.Programs.{IsTableOf}
-use Rattle.lg_mean.specs.Resolved.{resolved_step}
-use Rattle.lg_mean.proofs.FitLemmas.{fit_kept}
-use Rattle.lg_mean.proofs.ResolvedLemmas.{resolved_goes, goes_says, stays_state, if_none}
+use Rattle.lg_mean.specs.Programs.{LabelTable}
+use Rattle.lg_mean.proofs.ResolvedLemmas.{goes_says, if_none}
+use Rattle.lg_mean.proofs.RunLemmas.{none_gone, one_gone}
 use Rattle.lg_mean.proofs.portable.Portable.go.Goals as goal
 
-pub returns-then-step_resolved-clause-says : goal.returns-then-step_resolved-clause-says
-returns-then-step_resolved-clause-says g c =
+pub returns-then-run_resolved-eq1-clause-says : goal.returns-then-run_resolved-eq1-clause-says
+returns-then-run_resolved-eq1-clause-says g c =
     let l = c.args.unit.now.nodes in
     let shape = c.args.shape.now in
-    let A = c.self.inside.labels.addresses in
-    let s = state_of c.self.inside.machine in
-    let u = state_of c.step_resolved.new.self in
-    let n = c.node_at.result.now in
-    let q = c.node-node.result.now in
-    let made : IsTableOf l shape c.self.inside.labels = subst (λ (p : PortableState). IsTableOf l shape p.labels) (sym c.self.view_is) c.requires.made in
-    let here : slice_get l.nodes s.at ≡ Some n = ap (slice_get l.nodes) (sym c.place.ensures.value) ∙ sym c.node_at.ensures.node in
-    let found : slice_get c.self.inside.labels.resolved s.at ≡ Some q = ap (slice_get c.self.inside.labels.resolved) (sym c.place-2.ensures.value) ∙ sym c.node-node.ensures in
-    let goes : step l shape A s ≡ Goes u [] = resolved_goes l shape A n q s u c.step_resolved.result here (made.resolved.each s.at n q here found) c.if-step_resolved.true c.step_resolved.ensures in
+    let A = c.args.self.now.labels.addresses in
+    let s = state_of c.args.self.now.machine in
+    let u = state_of c.run_resolved.new.self.machine in
     let out = g.O.Sink.taken c.args.out.now in
     let faults = g.O.Sink.faults c.args.out.now in
-    let line = line_at l s in
-    let says : Steps (step l shape A s) line s mean.Went u out out faults faults = goes_says l shape A s u line out faults goes in
-    subst (λ (p : PortableState). IfNone p.over (Steps (step l shape p.labels.addresses (state_of p.machine)) (line_at l (state_of p.machine)) (state_of p.machine) mean.Went u out out faults faults)) c.self.view_is
-    (if_none c.self.inside.over (Steps (step l shape A s) line s mean.Went u out out faults faults) says)
+    let one : c.run_resolved.result ≡ 1 = grind (arith, nat_tests, c.if-run_resolved-eq1.true) in
+    if_none c.args.self.now.over (Steps (step l shape A s) (line_at l s) s mean.Went u out out faults faults)
+    (goes_says l shape A s u (line_at l s) out faults (one_gone (step l shape A) c.run_resolved.result s u one c.run_resolved.ensures.goes))
 
-pub returns-then-step_resolved-clause-fits : goal.returns-then-step_resolved-clause-fits
-returns-then-step_resolved-clause-fits g c =
+pub returns-clause-says : goal.returns-clause-says
+returns-clause-says g c =
     let l = c.args.unit.now.nodes in
     let shape = c.args.shape.now in
-    let A = c.self.inside.labels.addresses in
-    let s = state_of c.self.inside.machine in
-    let u = state_of c.step_resolved.new.self in
-    let n = c.node_at.result.now in
-    let q = c.node-node.result.now in
-    let made : IsTableOf l shape c.self.inside.labels = subst (λ (p : PortableState). IsTableOf l shape p.labels) (sym c.self.view_is) c.requires.made in
-    let here : slice_get l.nodes s.at ≡ Some n = ap (slice_get l.nodes) (sym c.place.ensures.value) ∙ sym c.node_at.ensures.node in
-    let found : slice_get c.self.inside.labels.resolved s.at ≡ Some q = ap (slice_get c.self.inside.labels.resolved) (sym c.place-2.ensures.value) ∙ sym c.node-node.ensures in
-    let goes : step l shape A s ≡ Goes u [] = resolved_goes l shape A n q s u c.step_resolved.result here (made.resolved.each s.at n q here found) c.if-step_resolved.true c.step_resolved.ensures in
+    let A = c.args.self.now.labels.addresses in
+    let s = state_of c.args.self.now.machine in
+    let m = c.run_resolved.new.self in
+    let t = state_of m.machine in
+    let u = state_of c.step_by_node.new.self.machine in
     let out = g.O.Sink.taken c.args.out.now in
+    let out' = g.O.Sink.taken c.step_by_node.new.out in
     let faults = g.O.Sink.faults c.args.out.now in
-    let line = line_at l s in
-    let says : Steps (step l shape A s) line s mean.Went u out out faults faults = goes_says l shape A s u line out faults goes in
-    let fits : Fits l shape s = subst (λ (p : PortableState). Fits l shape (state_of p.machine)) (sym c.self.view_is) c.requires.fits in
-    let well : FitsWell l shape s = record { fits = fits; heap = c.place.ensures.heap } in
-    let formed : IsFormedAt l s.at = λ (m : Node) (e : slice_get l.nodes s.at ≡ Some m). subst InForm (same_Some n m (sym here ∙ e)) c.node_at.ensures.form in
-    fit_kept c.steps_keep_the_fit.ensures l shape A s made.shaped formed well line mean.Went u out out faults faults says
-
-pub step_by_node-requires-clause-fits : goal.step_by_node-requires-clause-fits
-step_by_node-requires-clause-fits g c =
-    let l = c.args.unit.now.nodes in
-    let shape = c.args.shape.now in
-    let s = state_of c.self.inside.machine in
-    let u = state_of c.step_resolved.new.self in
-    let fits : Fits l shape s = subst (λ (p : PortableState). Fits l shape (state_of p.machine)) (sym c.self.view_is) c.requires.fits in
-    let same : u ≡ s = stays_state (resolved_step c.node-node.result.now s) s u c.step_resolved.result c.if-step_resolved.false c.step_resolved.ensures in
-    subst (λ (x : State). Fits l shape x) (sym same) fits
+    let faults' = g.O.Sink.faults c.step_by_node.new.out in
+    let answer = c.step_by_node.result in
+    let few = c.run_resolved.ensures.few in
+    let none : c.run_resolved.result ≡ 0 = grind (arith, nat_tests, few, c.if-run_resolved-eq1.false) in
+    let now : Steps (step l shape m.labels.addresses t) (line_at l t) t answer u out out' faults faults' =
+    subst (λ (o : Option MeanStep). IfNone o (Steps (step l shape m.labels.addresses t) (line_at l t) t answer u out out' faults faults')) c.run_resolved.ensures.over c.step_by_node.ensures.says in
+    if_none c.args.self.now.over (Steps (step l shape A s) (line_at l s) s answer u out out' faults faults')
+    (subst (λ (x : State). Steps (step l shape A x) (line_at l x) x answer u out out' faults faults') (none_gone (step l shape A) c.run_resolved.result s t none c.run_resolved.ensures.goes)
+    (subst (λ (x : LabelTable). Steps (step l shape x.addresses t) (line_at l t) t answer u out out' faults faults') c.run_resolved.ensures.labels now))
