@@ -21,16 +21,14 @@ pub fn admitted(form: Form, operand: Operand) -> Result<Operand, RefusalKind>
     }
 }
 
-/// Returns the operand that the text of a register is.
+/// Returns the operand that the text of a register is. None of the seven is one of floating point.
 pub fn register_operand(form: Form, text: &[u8]) -> Result<Operand, RefusalKind>
     ensures value { result ≡ register_operand form text.now }
     ensures form { IfOk result (λ x. admits form x ≡ true) }
 {
-    if is_float_register(text) {
-        return Err(RefusalKind::FloatRefused);
-    }
     match register_of(text) {
         Some(register) => admitted(form, Operand::Reg(register)),
+        None if is_float_register(text) => Err(RefusalKind::FloatRefused),
         None => Err(RefusalKind::BadOperand),
     }
 }
