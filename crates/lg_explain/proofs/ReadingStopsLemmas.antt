@@ -381,13 +381,16 @@ module _ (text : List ℕ) where
     -- a name that the place makes, where the place makes one
     new_name_made : (word : List ℕ) (new : FunctionNames) → new.words ≡ s.names.words ++ word ∷ [] → is_made names word ≡ false
         → (made_again names word ≡ None) × HasMade (record s { names = new }) labels (with_word names word)
-    new_name_made word new e none = (made_none names word none, record {
-      of = h.of;
-      faultless = h.faultless;
-      even = h.even;
-      bound = h.bound;
-      named = e ∙ (ap (λ ws. ws ++ word ∷ []) h.named ∙ sym (with_new names word none));
-    })
+    new_name_made word new e none = (
+      made_none names word none,
+      record {
+        of = h.of;
+        faultless = h.faultless;
+        even = h.even;
+        bound = h.bound;
+        named = e ∙ (ap (λ ws. ws ++ word ∷ []) h.named ∙ sym (with_new names word none));
+      },
+    )
 
     -- names that stay
     as_before : HasMade (record s { names = s.names }) labels names
@@ -683,15 +686,19 @@ module _ (text : List ℕ) where
     by_made true e = subst (λ b. Follows (BoundBy b) (t ∷ s.source.left) labels names []) (sym (unbound true e))
         (λ twice. stops_here t s.source.left labels names [] LabelMark (token_text s t) word (token_is s t LabelMark labels names h is) (made_some labels word e))
     by_made false e = subst (λ b. Follows (BoundBy b) (t ∷ s.source.left) labels names []) (sym (unbound false e))
-        (on (BoundBy true) t s.source.left labels names [] LabelMark (token_text s t) (token_is s t LabelMark labels names h is) (made_none labels word e)
-        (with_word labels word, names, record {
-          of = h.of;
-          faultless = h.faultless;
-          even = placed_even s.list word place h.even;
-          bound = λ other. placed_is s.list word other place h.even ∙ (ap (λ b. bytes_eq other word || b) (h.bound other)
-              ∙ (sym (made_with labels word other) ∙ ap (λ ws. is_made ws other) (sym (with_new labels word e))));
-          named = h.named;
-        }, λ line f. f))
+        (on (BoundBy true) t s.source.left labels names [] LabelMark (token_text s t) (token_is s t LabelMark labels names h is) (made_none labels word e) (
+          with_word labels word,
+          names,
+          record {
+            of = h.of;
+            faultless = h.faultless;
+            even = placed_even s.list word place h.even;
+            bound = λ other. placed_is s.list word other place h.even ∙ (ap (λ b. bytes_eq other word || b) (h.bound other)
+                ∙ (sym (made_with labels word other) ∙ ap (λ ws. is_made ws other) (sym (with_new labels word e))));
+            named = h.named;
+          },
+          λ line f. f,
+        ))
 
     label_follows : Follows (label s word t.line) (t ∷ s.source.left) labels names []
     label_follows = by_made (is_made labels word) refl
