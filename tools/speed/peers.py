@@ -61,7 +61,7 @@ def seconds(command, folder, times):
 def peers(lightning, bench, folder):
     """What can be run here: a name, a command, and how often it is run for the whole work."""
     (folder / "riscv.s").write_text("addi t0, t0, 1\n" * COUNT)
-    (folder / "adds.tst").write_text("prolog\n" + "addi %r0 %r0 1\n" * COUNT + "ret epilog\n")
+    (folder / "adds.tst").write_text("prolog movi %r0 0 more:\n" + "addi %r0 %r0 1\n" * COUNT + "retr %r0 epilog\n")
     (folder / "tcc.s").write_text("addq $1, %rax\n" * COUNT)
     (folder / "fasm.asm").write_text("use64\n" + "add rax, 1\n" * COUNT)
     (folder / "asmjit.cc").write_text(ASMJIT.replace("COUNT", str(COUNT)).replace("TIMES", str(TIMES)))

@@ -52,7 +52,7 @@ KINDS = {
     "plain": lambda size: repeated(REFUSED, "addi %r0 %r1 12345\n", size),
     "calls": lambda size: repeated(REFUSED + MACROS, "ADD(%r1, 12345)\n", size),
     "macros": macros,
-    "adds": lambda lines: "prolog\n" + "addi %r0 %r0 1\n" * lines + "ret epilog\n",
+    "adds": lambda lines: "prolog movi %r0 0 more:\n" + "addi %r0 %r0 1\n" * lines + "retr %r0 epilog\n",
     "far": lambda lines: FAR.format("addi %v0 %v0 99999\n" * lines),
     "swaps": lambda lines: "prolog arg $a getarg %r0 $a\n" + "htonr_ul %r0 %r0\n" * lines + "retr %r0 epilog\n",
     "short": lambda _: SHORT,
