@@ -50,7 +50,7 @@ fn entries_of(
     Ok(entries)
 }
 
-// Returns the numbers of a line, behind the name.
+// Returns the numbers of a line, after the name.
 fn words_in(alloc: Global, line: &str) -> Result<Vec<u64>, OutOfMemory> {
     let mut words = Vec::new(alloc);
     for word in line.split(' ') {

@@ -41,9 +41,9 @@ use Rattle.std.specs.List.{All}
 use Rattle.lg_asm.specs.Lowered.{is_marked, is_outward, ArePlaces, AreOf, AreNodesCoded, HasNoRoomFor}
 use Rattle.lg_asm.specs.NodeChoices.{spills_in}
 
--- the target, the size of the buffer in which the code was made, marks of the nodes that begin the functions which are called from outside, the bytes, the final nodes with their shape, the registers that are live before and after
--- each, the places of the nodes and of the end, the addresses of the labels, the index of the text's node from which each comes, and how many registers are
--- saved for temporaries
+-- the target, the size of the buffer in which the code was made, marks of the nodes that begin the functions which are called from outside, the bytes, the
+-- final nodes with their shape, the registers that are live before and after each, the places of the nodes and of the end, the addresses of the labels, the
+-- index of the text's node from which each comes, and how many registers are saved for temporaries
 pub record Assembled : Type 0 where
   pub target : Target
   pub size : ℕ

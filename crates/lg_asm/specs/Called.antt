@@ -78,8 +78,8 @@ pub record HasReturned (target : Target) (sp : ℕ) (q : CpuState) (answer : Opt
   pub kept : (r : ℕ) → is_kept target r ≡ true → r ≢ stack_register target → u.registers r ≡ q.registers r
   pub result : HoldsResult target u.registers answer
 
--- a state has the memory of the meaning's, and nothing else between the data and the heap; where the meaning has returned with a result, so has the code, and where a host function has ended it, control is
--- at the entry of one
+-- a state has the memory of the meaning's, and nothing else between the data and the heap; where the meaning has returned with a result, so has the code, and
+-- where a host function has ended it, control is at the entry of one
 pub record EndsAsMeant (target : Target) (sp : ℕ) (q : CpuState) (r : mean.Run) (p : Run CpuState) : Type 0 where
   pub memory : HasItsMemory r p
   pub parts : HasParts r.state p.state.bytes

@@ -74,7 +74,8 @@ pub(crate) fn text_bytes(
     requires shape { IsShapeOf nodes.now shape.now }
     requires live { AreLive nodes.now shape.now live.now }
     requires size { size ≤ most_code }
-    ensures given { IfOk result (λ t. IsGiven target nodes.now shape.now live.now (is_marked nodes.now outward.now) size t.places.items t.tags.items t.bytes.items) }
+    ensures given { IfOk result
+        (λ t. IsGiven target nodes.now shape.now live.now (is_marked nodes.now outward.now) size t.places.items t.tags.items t.bytes.items) }
     ensures refused { IfErr result (IsRefusedFor target nodes.now shape.now (is_marked nodes.now outward.now) size) }
 {
     let count = nodes.len();
@@ -149,7 +150,8 @@ pub(crate) fn parts_of(
     requires shape { IsShapeOf nodes.now shape.now }
     requires size { size ≤ most_code }
     ensures live { IfOk result (λ p. AreLive nodes.now shape.now p.live) }
-    ensures given { IfOk result (λ p. IsGiven target nodes.now shape.now p.live (is_marked nodes.now outward.now) size p.text.places.items p.text.tags.items p.text.bytes.items) }
+    ensures given { IfOk result (λ p. IsGiven target nodes.now shape.now p.live (is_marked nodes.now outward.now) size
+        p.text.places.items p.text.tags.items p.text.bytes.items) }
     ensures labels { IfOk result (λ p. AreMade nodes.now.places p.text.tags.items p.labels (length nodes.now.places)) }
     ensures passed { IfOk result (λ p. ArePushed nodes.now.nodes p.counts.passed.items (length nodes.now.nodes)) }
     ensures spills { IfOk result (λ p. p.counts.spills ≡ spills_in target nodes.now.nodes p.live (length nodes.now.nodes)) }

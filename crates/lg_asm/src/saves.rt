@@ -144,8 +144,8 @@ fn is_outward(node: u32, entry: u32, marks: &[bool]) -> bool
     node == entry || marks.get(node as usize).copied().unwrap_or(false)
 }
 
-/// Returns how many of V0, V1 and V2 the frames of the function save in which a node stands: this many, and all three where it is called from outside, as that is
-/// which begins at the entry, and those that begin at marked nodes.
+/// Returns how many of V0, V1 and V2 the frames of a node's function save: this many, and all three where it is called from outside, as that is which begins at
+/// the entry, and those that begin at marked nodes.
 pub(crate) fn function_saves(
     shape: &Shape,
     index: u32,

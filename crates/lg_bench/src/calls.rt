@@ -19,7 +19,7 @@ const SUM: &str =
 // The most steps of a call.
 const MOST_STEPS: u64 = 1_000_000;
 
-// The most steps behind which another call is made.
+// The most steps after which another call is made.
 const MANY_STEPS: u64 = 1_000_000_000_000;
 
 // Returns the code of the function for a target.

@@ -22,7 +22,7 @@ IsAmong words word = list_any (bytes_eq word) words ≡ true
 same_bytes : (word : List ℕ) → bytes_eq word word ≡ true
 same_bytes word = (bytes_eq-Decides word word).1 refl
 
-one_more : (n : ℕ) → 1 + n ≡ suc n
+pub one_more : (n : ℕ) → 1 + n ≡ suc n
 one_more n = omega arith
 
 -- where both ways give the same

@@ -300,7 +300,7 @@ module _ (text : List ℕ) where
     pub again : Again labels names forms tokens at word
     pub first : (j : ℕ) (other : List ℕ) → j < at → Again labels names forms tokens j other → ⊥
 
-  -- it is the token at hand, or one of those behind it
+  -- it is the token at hand, or one of those after it
   abbrev pub first_now : (t : Token) (tokens : List Token) (labels names : List (List ℕ)) (forms : List Form) (word : List ℕ) → again forms t.kind (text_of text t) labels names ≡ Some word
       → First labels names forms (t ∷ tokens) word
   first_now t tokens labels names forms word e = record {

@@ -7,6 +7,7 @@ pub mod FormsTakenLemmas
 pub mod MisfitLemmas
 pub mod MisfitsRefusedLemmas
 pub mod ReadingStopsLemmas
+pub mod ReadingTokenLemmas
 pub mod ReasonLemmas
 pub mod ShownLemmas
 pub mod TwiceLemmas

@@ -1,14 +1,10 @@
 -- Where the reading of a text stops for a word that is made twice, statement by statement: at the first token that makes a word again.
-use Rattle.std.proofs.Common.{◌≡◌, ◌⊎◌, inl, inr, ℕ, zero, suc, Bool, true, false, not, ◌||◌, ◌&&◌, List, [], ◌∷◌, ◌++◌, length, drop, Option, Some, None, Ok, Err, codes, is_some, refl, sym, ap, ◌∙◌, subst, ◌+◌, cond, arith}
-use Rattle.std.specs.Prelude.{Result, if◌then◌else◌, nat_le, nat_lt, slice_get, position}
-use Rattle.std.specs.List.{list_any, position_or_len}
+use Rattle.std.proofs.Common.{◌≡◌, ◌⊎◌, inl, inr, ℕ, zero, suc, Bool, true, false, not, ◌||◌, ◌&&◌, List, [], ◌∷◌, ◌++◌, length, drop, Option, Some, None, Ok, Err, codes, is_some, refl, sym, ap, ◌∙◌, subst}
+use Rattle.std.specs.Prelude.{Result, if◌then◌else◌, nat_le, nat_lt, slice_get}
 use Rattle.std.specs.Str.{bytes_eq}
-use Rattle.std.proofs.lemmas.List.Folds.{list_any-append}
 use Rattle.std.proofs.lemmas.Slice.Eq.{bytes_eq-Decides}
-use lib.Dec.{leb-suc-suc, leb-zero}
 use Rattle.lg_base.specs.HostNames.{host_by_name}
 use Rattle.lg_base.specs.Refusals.{◌>>=◌, refuse}
-use Rattle.lg_base.specs.declared.host_name.HostName.{HostName}
 use Rattle.lg_base.specs.declared.refusal.Refusal.{Refusal}
 use Rattle.lg_base.specs.declared.refusal.RefusalKind.{RefusalKind}
 use Rattle.lg_base.specs.declared.refusal.RefusalKind.TheVariants.{BadOperand, DataFull, FloatRefused, LabelTwice, TooManyNodes, UnknownName}
@@ -18,7 +14,6 @@ use Rattle.lg_lex.specs.declared.token.TokenKind.TheVariants.{Word, Directive, L
 use Rattle.lg_node.specs.Functions.{is_prolog}
 use Rattle.lg_node.specs.Nodes.{mentioned, number_of, with_place}
 use Rattle.lg_node.specs.declared.place.Place.{Place}
-use Rattle.lg_op.specs.Forms.{admits}
 use Rattle.lg_op.specs.declared.form.Form.{Form}
 use Rattle.lg_op.specs.declared.form.Form.TheVariants.{Write, Update, Read, Immediate, Target, Callee, NewArgument, Argument, NewLocal, Size, Alignment, ArgumentCount}
 use Rattle.lg_op.specs.declared.op.Op.{Op}
@@ -26,16 +21,15 @@ use Rattle.lg_op.specs.declared.op.Op.TheVariants.{Plain}
 use Rattle.lg_op.specs.declared.op.PlainOp.TheVariants as plain
 use Rattle.lg_op.specs.declared.operand.Operand.{Operand}
 use Rattle.lg_op.specs.declared.operand.Operand.TheVariants as operand
-use Rattle.lg_op.specs.declared.operand.Reg.{Reg}
-use Rattle.lg_operand.specs.Operands.{admitted, argument_named, host_misfit, host_operand, local_named, local_size, misfit, register_at, register_operand, stays_apart}
-use Rattle.lg_operand.specs.Registers.{is_float_register, register_of}
+use Rattle.lg_operand.specs.Operands.{admitted, host_operand, local_size, misfit, register_operand, stays_apart}
+use Rattle.lg_operand.specs.Registers.{is_float_register}
 use Rattle.lg_tst.specs.DataParts.{DataBytes, fits, with_bytes, zeros}
 use Rattle.lg_tst.specs.Names.{FunctionNames, no_names, meaning_of}
 use Rattle.lg_tst.specs.Names as names_spec
 use Rattle.lg_tst.specs.Operands.{apart_or, name_operand, new_name, operand_at}
 use Rattle.lg_tst.specs.Statements.{directive_statement, instruction_or, is_number, is_value, statement_of, word_in}
 use Rattle.lg_tst.specs.Streams.{next_of, tail_of, text_of, wanted_of, without_last}
-use Rattle.lg_tst.specs.Units.{State, after_if, align_data, aligned, at_line, begun, behind, bound_at, data_section, first_value, instruction, is_data_alignment, is_digits, is_string, is_unbound, is_word_kind, item, label, more_values, most_data, most_nodes, name_word, named, note, noted, noted_by, number_at, number_wanted, operand_of, operands, opened, or_twice, padding, place_in, skip, skip_if, statement_by, statement_from, statements, stored, text_from, token_text, value_bytes, values, written_forms}
+use Rattle.lg_tst.specs.Units.{State, after_if, align_data, aligned, at_line, begun, behind, data_section, first_value, instruction, is_data_alignment, is_digits, is_string, is_unbound, is_word_kind, item, label, more_values, most_data, most_nodes, name_word, named, note, noted, noted_by, number_at, number_wanted, operands, opened, or_twice, padding, place_in, skip, skip_if, statement_by, statement_from, statements, stored, text_from, token_text, value_bytes, values, written_forms}
 use Rattle.lg_tst.specs.Words.{directive_of, is_float_word, op_of}
 use Rattle.lg_tst.specs.declared.statement.ItemSize.{ItemSize}
 use Rattle.lg_tst.specs.declared.statement.ItemSize.TheVariants.{One, Two, Four, Eight}
@@ -44,215 +38,10 @@ use Rattle.lg_tst.specs.declared.statement.Section.TheVariants as section
 use Rattle.lg_tst.specs.declared.statement.Statement.TheVariants as statement
 use Rattle.lg_tst.specs.declared.words.Directive.{Directive as DirectiveName}
 use Rattle.lg_tst.specs.declared.words.Directive.TheVariants as directive
-use Rattle.lg_explain.specs.Twice.{again, begins, begins_function, forms_after, forms_by, forms_of_word, is_made, is_name, labels_after, made_again, makes_label, makes_name, makes_name_in, names_after, with_word}
+use Rattle.lg_explain.specs.Twice.{again, begins, forms_after, forms_by, forms_of_word, is_made, is_name, labels_after, made_again, makes_name, names_after, with_word}
 use Rattle.lg_explain.proofs.BoundLemmas.{is_bound, mention, placed_even, placed_is, unbound_is}
 use Rattle.lg_explain.proofs.FormsTakenLemmas.{begun_is, begun_same, noted_same}
-
--- ---- refusals for another reason
-abbrev pub IsOther : RefusalKind → Type 0
-IsOther kind = kind ≡ LabelTwice → ⊥
-
--- a fault after the tokens is for another reason
-abbrev pub NoTwice : Option Refusal → Type 0
-NoTwice None = Unit {0}
-NoTwice (Some refusal) = IsOther refusal.kind
-
-bad_operand : IsOther BadOperand
-bad_operand e = cc
-
-unknown_name : IsOther UnknownName
-unknown_name e = cc
-
-float_refused : IsOther FloatRefused
-float_refused e = cc
-
-data_full : IsOther DataFull
-data_full e = cc
-
-too_many : IsOther TooManyNodes
-too_many e = cc
-
--- a token that is misplaced
-misfit_other : (kind : TokenKind) (word : List ℕ) → IsOther (misfit kind word)
-misfit_other Register word = by (is_float_register word)
-  where
-    by : (b : Bool) → IsOther (if b then FloatRefused else BadOperand)
-    by true = float_refused
-    by false = bad_operand
-misfit_other Host word = by (host_by_name (drop 1 word))
-  where
-    by : (o : Option HostName) → IsOther (host_misfit o)
-    by (Some h) = bad_operand
-    by None = λ e. cc
-misfit_other Word word = bad_operand
-misfit_other Directive word = bad_operand
-misfit_other LabelMark word = bad_operand
-misfit_other Number word = bad_operand
-misfit_other Character word = bad_operand
-misfit_other Expression word = bad_operand
-misfit_other Name word = bad_operand
-misfit_other Str word = bad_operand
-
--- ---- operands that are refused for another reason
-abbrev IsMild : Result Operand RefusalKind → Type 0
-IsMild (Ok x) = Unit {0}
-IsMild (Err kind) = IsOther kind
-
-admitted_mild : (form : Form) (x : Operand) → IsMild (admitted form x)
-admitted_mild form x = by (admits form x)
-  where
-    by : (b : Bool) → IsMild (if b then Ok x else Err BadOperand)
-    by true = tt
-    by false = bad_operand
-
-register_mild : (form : Form) (word : List ℕ) → IsMild (register_operand form word)
-register_mild form word = by (is_float_register word) (register_of word)
-  where
-    by : (b : Bool) (o : Option Reg) → IsMild (if b then Err FloatRefused else register_at form o)
-    by true o = float_refused
-    by false None = bad_operand
-    by false (Some r) = admitted_mild form (operand.Reg r)
-
-host_mild : (form : Form) (o : Option HostName) → IsMild (host_operand form o)
-host_mild form None = λ e. cc
-host_mild form (Some h) = admitted_mild form (operand.Host h)
-
-argument_mild : (o : Option Operand) → IsMild (argument_named o)
-argument_mild None = λ e. cc
-argument_mild (Some (operand.Slot n)) = tt
-argument_mild (Some (operand.Reg r)) = λ e. cc
-argument_mild (Some (operand.Number n)) = λ e. cc
-argument_mild (Some (operand.Label l)) = λ e. cc
-argument_mild (Some (operand.Host h)) = λ e. cc
-
-local_mild : (o : Option Operand) → IsMild (local_named o)
-local_mild None = λ e. cc
-local_mild (Some (operand.Number n)) = tt
-local_mild (Some (operand.Reg r)) = λ e. cc
-local_mild (Some (operand.Slot n)) = λ e. cc
-local_mild (Some (operand.Label l)) = λ e. cc
-local_mild (Some (operand.Host h)) = λ e. cc
-
--- ---- words that are made
-made_none : (words : List (List ℕ)) (word : List ℕ) → is_made words word ≡ false → made_again words word ≡ None
-made_none words word e = ap (λ b. if b then Some word else None) e
-
-made_some : (words : List (List ℕ)) (word : List ℕ) → is_made words word ≡ true → made_again words word ≡ Some word
-made_some words word e = ap (λ b. if b then Some word else None) e
-
-with_new : (words : List (List ℕ)) (word : List ℕ) → is_made words word ≡ false → with_word words word ≡ words ++ word ∷ []
-with_new words word e = ap (λ b. if b then words else words ++ word ∷ []) e
-
-or_turned : (a b : Bool) → (a || (b || false)) ≡ (b || a)
-or_turned true true = refl
-or_turned true false = refl
-or_turned false true = refl
-or_turned false false = refl
-
-made_with : (words : List (List ℕ)) (word other : List ℕ) → is_made (words ++ word ∷ []) other ≡ (bytes_eq other word || is_made words other)
-made_with words word other = list_any-append (bytes_eq other) words (word ∷ []) ∙ or_turned (is_made words other) (bytes_eq other word)
-
--- the place of a name among those that are made
-one_more : (n : ℕ) → 1 + n ≡ suc n
-one_more n = omega arith
-
-place_made : (words : List (List ℕ)) (word : List ℕ) → is_some (position (bytes_eq word) words) ≡ is_made words word
-place_made [] word = refl
-place_made (x ∷ words) word = by (bytes_eq word x) (place_made words word)
-  where
-    by : (b : Bool) → is_some (position (bytes_eq word) words) ≡ is_made words word
-        → is_some (if nat_lt (cond (not b) (1 + position_or_len (bytes_eq word) words) 0) (suc (length words)) then Some (cond (not b) (1 + position_or_len (bytes_eq word) words) 0) else None)
-        ≡ (b || is_made words word)
-    by true e = ap (λ c. is_some (if◌then◌else◌ {A = Option ℕ} c (Some 0) None)) (leb-suc-suc 0 (length words) ∙ leb-zero (length words))
-    by false e =
-        let n = position_or_len (bytes_eq word) words in
-        ap (λ k. is_some (if nat_lt k (suc (length words)) then Some k else None)) (one_more n)
-        ∙ (ap (λ c. is_some (if c then Some (suc n) else None)) (leb-suc-suc (suc n) (length words)) ∙ later (nat_lt (position_or_len (bytes_eq word) words) (length words)) e)
-      where
-        later : (c : Bool) → is_some (if c then Some (position_or_len (bytes_eq word) words) else None) ≡ is_made words word
-            → is_some (if c then Some (suc (position_or_len (bytes_eq word) words)) else None) ≡ is_made words word
-        later true f = f
-        later false f = f
-
-is_name_made : (names : FunctionNames) (words : List (List ℕ)) (word : List ℕ) → names.words ≡ words → names_spec.is_made names word ≡ is_made words word
-is_name_made names words word e = place_made names.words word ∙ ap (λ ws. is_made ws word) e
-
--- ---- tokens that make nothing and begin no instruction
-abbrev is_quiet : TokenKind → Bool
-is_quiet Word = false
-is_quiet LabelMark = false
-is_quiet kind = true
-
--- nothing changes at such a token
-abbrev Passed : TokenKind → List ℕ → (labels names : List (List ℕ)) → Type 0
-Passed kind word labels names =
-    (again [] kind word labels names ≡ None) × (labels_after [] kind word labels ≡ labels) × (names_after [] kind word names ≡ names) × (forms_after [] kind word ≡ [])
-
-quiet_passed : (kind : TokenKind) (word : List ℕ) (labels names : List (List ℕ)) → is_quiet kind ≡ true → Passed kind word labels names
-quiet_passed Word word labels names e = cc
-quiet_passed LabelMark word labels names e = cc
-quiet_passed Directive word labels names e = (refl, refl, refl, refl)
-quiet_passed Register word labels names e = (refl, refl, refl, refl)
-quiet_passed Number word labels names e = (refl, refl, refl, refl)
-quiet_passed Character word labels names e = (refl, refl, refl, refl)
-quiet_passed Expression word labels names e = (refl, refl, refl, refl)
-quiet_passed Name word labels names e = (refl, refl, refl, refl)
-quiet_passed Host word labels names e = (refl, refl, refl, refl)
-quiet_passed Str word labels names e = (refl, refl, refl, refl)
-
-number_quiet : (kind : TokenKind) → is_number kind ≡ true → is_quiet kind ≡ true
-number_quiet Word e = cc
-number_quiet LabelMark e = cc
-number_quiet Directive e = refl
-number_quiet Register e = refl
-number_quiet Number e = refl
-number_quiet Character e = refl
-number_quiet Expression e = refl
-number_quiet Name e = refl
-number_quiet Host e = refl
-number_quiet Str e = refl
-
-value_quiet : (size : ItemSize) (kind : TokenKind) → is_value size kind ≡ true → is_quiet kind ≡ true
-value_quiet One Word e = cc
-value_quiet Two Word e = cc
-value_quiet Four Word e = cc
-value_quiet Eight Word e = cc
-value_quiet One LabelMark e = cc
-value_quiet Two LabelMark e = cc
-value_quiet Four LabelMark e = cc
-value_quiet Eight LabelMark e = cc
-value_quiet size Directive e = refl
-value_quiet size Register e = refl
-value_quiet size Number e = refl
-value_quiet size Character e = refl
-value_quiet size Expression e = refl
-value_quiet size Name e = refl
-value_quiet size Host e = refl
-value_quiet size Str e = refl
-
-string_quiet : (kind : TokenKind) → is_string kind ≡ true → is_quiet kind ≡ true
-string_quiet Word e = cc
-string_quiet LabelMark e = cc
-string_quiet Directive e = refl
-string_quiet Register e = refl
-string_quiet Number e = refl
-string_quiet Character e = refl
-string_quiet Expression e = refl
-string_quiet Name e = refl
-string_quiet Host e = refl
-string_quiet Str e = refl
-
-digits_quiet : (kind : TokenKind) → is_digits kind ≡ true → is_quiet kind ≡ true
-digits_quiet Word e = cc
-digits_quiet LabelMark e = cc
-digits_quiet Directive e = refl
-digits_quiet Register e = refl
-digits_quiet Number e = refl
-digits_quiet Character e = refl
-digits_quiet Expression e = refl
-digits_quiet Name e = refl
-digits_quiet Host e = refl
-digits_quiet Str e = refl
+use Rattle.lg_explain.proofs.ReadingTokenLemmas.{IsMild, IsOther, NoTwice, admitted_mild, argument_mild, bad_operand, data_full, digits_quiet, float_refused, host_mild, is_name_made, is_quiet, local_mild, made_none, made_some, made_with, misfit_other, number_quiet, quiet_passed, register_mild, string_quiet, too_many, unknown_name, value_quiet, with_new}
 
 module _ (text : List ℕ) where
   -- ---- where the first word is made again, by the tokens that are left: in this line

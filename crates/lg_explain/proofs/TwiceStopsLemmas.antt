@@ -7,14 +7,14 @@ use Rattle.lg_base.specs.declared.refusal.RefusalKind.TheVariants.{BadExpr, BadT
 use Rattle.lg_lex.specs.Tokens.{tokens_of}
 use Rattle.lg_lex.specs.declared.token.Token.{Token}
 use Rattle.lg_lex.proofs.FaultKindLemmas.{IsTokenFault, tokens_fault}
-use Rattle.lg_node.specs.declared.unit.Unit.{Unit as TextUnit}
 use Rattle.lg_op.specs.declared.form.Form.{Form}
 use Rattle.lg_tst.specs.Streams.{text_of}
-use Rattle.lg_tst.specs.Units.{State, start, statements_of, unit_from, unit_of}
-use Rattle.lg_explain.specs.Twice.{again, forms_after, labels_after, names_after}
-use Rattle.lg_explain.specs.TwiceMade.{IsRefusedThere, TwiceIsWhereReadingStops}
+use Rattle.lg_tst.specs.Units.{State, start, statements_of, unit_from}
+use Rattle.lg_explain.specs.Twice.{forms_after, labels_after, names_after}
+use Rattle.lg_explain.specs.TwiceMade.{TwiceIsWhereReadingStops}
 use Rattle.lg_explain.proofs.FirstTwiceLemmas.{First, first_now, first_later, is_first}
-use Rattle.lg_explain.proofs.ReadingStopsLemmas.{HasMade, NoTwice, Stops, StopsAt, statements_stop}
+use Rattle.lg_explain.proofs.ReadingStopsLemmas.{HasMade, Stops, StopsAt, statements_stop}
+use Rattle.lg_explain.proofs.ReadingTokenLemmas.{NoTwice}
 
 -- a fault of the tokens is for another reason
 other_fault : (fault : Option Refusal) → IsTokenFault fault → NoTwice fault

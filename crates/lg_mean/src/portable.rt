@@ -147,7 +147,8 @@ impl Portable {
         requires fits { Fits unit.now.nodes shape.now (state_of self.old.machine) }
         requires count { self.old.steps < 2 ^ 64 - 1 }
         requires running { self.old.over ≡ None }
-        ensures goes { result ≡ true → step unit.now.nodes shape.now self.old.labels.addresses (state_of self.old.machine) ≡ Goes (state_of self.new.machine) [] }
+        ensures goes { result ≡ true
+            → step unit.now.nodes shape.now self.old.labels.addresses (state_of self.old.machine) ≡ Goes (state_of self.new.machine) [] }
         ensures steps { result ≡ true → self.new.steps ≡ self.old.steps + 1 }
         ensures stays { result ≡ false → (state_of self.new.machine ≡ state_of self.old.machine) × (self.new.steps ≡ self.old.steps) }
         ensures fits { Fits unit.now.nodes shape.now (state_of self.new.machine) }

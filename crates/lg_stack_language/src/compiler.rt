@@ -22,7 +22,7 @@ pub struct Function<'a> {
     pub arguments: u32,
 }
 
-/// What is made of a text: its unit, and its functions in the order in which the text names them, behind `main`.
+/// What is made of a text: its unit, and its functions in the order in which the text names them, after `main`.
 #[derive(Drop)]
 pub struct Program<'a> {
     pub unit: Unit,
