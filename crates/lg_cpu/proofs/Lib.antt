@@ -5,7 +5,7 @@ mod CallLemmas
 mod DecodeLemmas
 mod EnteringLemmas
 mod FaultLemmas
-mod FollowLemmas
+pub mod FollowLemmas
 mod OperatorLemmas
 mod RoomLemmas
 mod RvFaultLemmas
@@ -18,6 +18,7 @@ mod X86NextLemmas
 pub mod A64RunLemmas
 pub mod A64SoundLemmas
 pub mod CacheLemmas
+pub mod LineCountLemmas
 pub mod RunLemmas
 pub mod SeriesLemmas
 pub mod SoundLemmas

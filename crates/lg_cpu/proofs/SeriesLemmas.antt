@@ -91,7 +91,7 @@ leads_more old here new n answer h is d = record {
     one out = ap (after (run_of (going_on here 0) out)) same
         ∙ (λ i. record { state = sym d.1 i; progress = goes i; out = (ap (λ x. out ++ x) d.3 ∙ append-nil out) i })
 
-iter_plus : {S : Type 0} (step : S → S) (n m : ℕ) (s : S) → iter step (n + m) s ≡ iter step m (iter step n s)
+pub iter_plus : {S : Type 0} (step : S → S) (n m : ℕ) (s : S) → iter step (n + m) s ≡ iter step m (iter step n s)
 unfolding iter
 iter_plus step n zero s = let none : n + 0 ≡ n = omega arith in ap (λ k. iter step k s) none
 iter_plus step n (suc m) s = let more : n + suc m ≡ suc (n + m) = omega arith in ap (λ k. iter step k s) more ∙ ap step (iter_plus step n m s)

@@ -8,6 +8,7 @@ pub mod HostSteps
 pub mod Decodings
 pub mod Entering
 pub mod Laws
+pub mod LineCounts
 pub mod Loads
 pub mod Machines
 pub mod RvOperators

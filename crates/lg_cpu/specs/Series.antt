@@ -51,9 +51,13 @@ AdvancesAfter before old new most taken taken' count count' answer = (answer ≡
 abbrev pub going_on : Inner → ℕ → Shown
 going_on p steps = shown_of p cpu.Went steps
 
+-- the run from here on, where these bytes were written
+abbrev pub code_run : Inner → List ℕ → ℕ → Run CpuState
+code_run p out n = iter (machine_of p.fixed.target p.fixed.code p.fixed.trash).step n (run_of (going_on p 0) out)
+
 -- this many instructions of the code lead a processor from one state to another, whatever was written before, and write nothing
 pub record LeadsOver (old here : Inner) (n : ℕ) : Type 0 where
-  pub stands : (out : List ℕ) → run_of (going_on here 0) out ≡ iter (machine_of old.fixed.target old.fixed.code old.fixed.trash).step n (run_of (going_on old 0) out)
+  pub stands : (out : List ℕ) → run_of (going_on here 0) out ≡ code_run old out n
   pub fixed : here.fixed ≡ old.fixed
 
 -- after them comes one with another answer, where fewer than the most went, or none

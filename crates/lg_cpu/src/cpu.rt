@@ -38,7 +38,8 @@ fn is_counted(answer: CpuStep) -> bool
 
 impl Cpu {
     ghost use Rattle.lg_cpu.specs.Machines.{shown, shown_at_start, started_again, CpuSays, StepShows, inner, effect_in, after_set, after_set_flags, after_jump, after_store};
-    ghost use Rattle.lg_cpu.specs.Series.{AdvancesAfter};
+    ghost use Rattle.lg_cpu.specs.LineCounts.{Adds, MayAdd};
+    ghost use Rattle.lg_cpu.specs.Series.{Advances, AdvancesAfter, run_from};
     ghost use Rattle.lg_cpu.specs.Starts.{HasRoom};
 
     /// Returns a processor of a target before its first step: at the first address of the code, with the data part and the argument part in
@@ -147,17 +148,55 @@ impl Cpu {
     /// Takes steps until one gives another answer than `Went`, and at most this many; answers what the last one came to, and `Went` where there was none. It
     /// does what this many calls of `step`, in less time: after an answer other than `Went` the same is answered again, and nothing changes. Fewer than
     /// `u64::MAX` steps are then taken in all.
-    #[inline(never)]
     pub fn run<O: Sink>(&mut self, most: u64, out: &mut O) -> CpuStep
         requires { (shown self.old).steps + most < 2 ^ 64 }
         ensures says { AdvancesAfter (shown self.old).answer (shown self.old) (shown self.new) most
             (O.taken out.old) (O.taken out.new) (O.faults out.old) (O.faults out.new) result }
         ensures later { O.faults out.old ≤ O.faults out.new }
     {
-        if self.answer != CpuStep::Went {
-            return self.answer;
+        self.run_counted(most, &[], &mut [], out)
+    }
+
+    /// Takes steps as `run` does, and adds each that went or ended to the number of its line, where there are numbers. `lines` has a line for each place of the
+    /// code, as far as it goes; a step whose program counter has none, as that of a host function, belongs to the line of the step before it in this call, and
+    /// to line 0 where there is none. The lines are below the length of `counts`, and no number reaches 2^64 by `most` more.
+    #[inline(never)]
+    pub fn run_counted<O: Sink>(
+        &mut self,
+        most: u64,
+        lines: &[u32],
+        counts: &mut [u64],
+        out: &mut O,
+    ) -> CpuStep
+        requires few { (shown self.old).steps + most < 2 ^ 64 }
+        requires may { MayAdd lines.now most counts.old }
+        ensures says { AdvancesAfter (shown self.old).answer (shown self.old) (shown self.new) most
+            (O.taken out.old) (O.taken out.new) (O.faults out.old) (O.faults out.new) result }
+        ensures later { O.faults out.old ≤ O.faults out.new }
+        ensures counts { Adds lines.now (run_from (shown self.old)) ((shown self.new).steps - (shown self.old).steps) counts.old counts.new }
+    {
+        match self.answer {
+            CpuStep::Went => self.advance(most, lines, counts, out),
+            over => over,
         }
-        let Advanced { answer, steps } = self.processor.run(self.steps, most, out);
+    }
+
+    // Takes steps of a run that is not over.
+    fn advance<O: Sink>(
+        &mut self,
+        most: u64,
+        lines: &[u32],
+        counts: &mut [u64],
+        out: &mut O,
+    ) -> CpuStep
+        requires going { self.old.answer ≡ CpuStep.Went }
+        requires few { self.old.steps + most < 2 ^ 64 }
+        requires may { MayAdd lines.now most counts.old }
+        ensures says { Advances (shown self.old) (shown self.new) most (O.taken out.old) (O.taken out.new) (O.faults out.old) (O.faults out.new) result }
+        ensures later { O.faults out.old ≤ O.faults out.new }
+        ensures counts { Adds lines.now (run_from (shown self.old)) (self.new.steps - self.old.steps) counts.old counts.new }
+    {
+        let Advanced { answer, steps } = self.processor.run(self.steps, most, lines, counts, out);
         self.answer = answer;
         self.steps = steps;
         answer

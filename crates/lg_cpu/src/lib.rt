@@ -9,6 +9,7 @@ pub mod cpu;
 mod decode_cache;
 mod entering;
 pub mod laws;
+mod line_counts;
 mod processor;
 mod riscv64;
 mod series;

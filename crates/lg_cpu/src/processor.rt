@@ -1,6 +1,6 @@
 // The processor of a target.
 
-ghost use Rattle.std.specs.Prelude.{◌≡◌, ◌<◌, ◌≤◌, ◌⊎◌, ◌+◌, ◌^◌, ◌↔◌, length, IfOk, IsTrue, if◌then◌else◌, nat_lt};
+ghost use Rattle.std.specs.Prelude.{◌≡◌, ◌<◌, ◌≤◌, ◌⊎◌, ◌+◌, ◌-◌, ◌^◌, ◌↔◌, length, IfOk, IsTrue, if◌then◌else◌, nat_lt};
 
 use crate::aarch64::Aarch64;
 use crate::answer::CpuStep;
@@ -34,7 +34,8 @@ impl Processor {
     ghost use Rattle.lg_cpu.specs.Steps.{arrived};
     ghost use Rattle.lg_cpu.specs.Targets.{begins, reads, register_count, has_flags};
     ghost use Rattle.lg_cpu.specs.Machines.{inner, inner_of, with_start, begun, effect_in, with_state, with_register, with_flags, with_bytes, StepSays, shown_of};
-    ghost use Rattle.lg_cpu.specs.Series.{Advances, going_on};
+    ghost use Rattle.lg_cpu.specs.LineCounts.{Adds, MayAdd};
+    ghost use Rattle.lg_cpu.specs.Series.{Advances, going_on, run_from};
     ghost use Rattle.lg_cpu.specs.Starts.{HasRoom};
 
     /// Returns the processor of a target before its first step, with the number of arguments.
@@ -107,17 +108,27 @@ impl Processor {
         }
     }
 
-    /// Takes steps of a run that has taken this many, until one gives another answer than `Went`, and at most this many more.
-    pub fn run<O: Sink>(&mut self, steps: u64, most: u64, out: &mut O) -> Advanced
-        requires { steps + most < 2 ^ 64 }
+    /// Takes steps of a run that has taken this many, until one gives another answer than `Went`, and at most this many more, and adds those that went or ended
+    /// to the numbers of their lines, where there are any.
+    pub fn run<O: Sink>(
+        &mut self,
+        steps: u64,
+        most: u64,
+        lines: &[u32],
+        counts: &mut [u64],
+        out: &mut O,
+    ) -> Advanced
+        requires few { steps + most < 2 ^ 64 }
+        requires may { MayAdd lines.now most counts.old }
         ensures says { Advances (going_on (inner self.old) steps) (shown_of (inner self.new) result.answer result.steps) most
             (O.taken out.old) (O.taken out.new) (O.faults out.old) (O.faults out.new) result.answer }
         ensures later { O.faults out.old ≤ O.faults out.new }
+        ensures counts { Adds lines.now (run_from (going_on (inner self.old) steps)) (result.steps - steps) counts.old counts.new }
     {
         match self {
-            Processor::X86_64(p) => advance(p, steps, most, out),
-            Processor::Aarch64(p) => advance(p, steps, most, out),
-            Processor::Riscv64(p) => advance(p, steps, most, out),
+            Processor::X86_64(p) => advance(p, steps, most, lines, counts, out),
+            Processor::Aarch64(p) => advance(p, steps, most, lines, counts, out),
+            Processor::Riscv64(p) => advance(p, steps, most, lines, counts, out),
         }
     }
 

@@ -6,7 +6,8 @@ use Rattle.std.proofs.lemmas.Option.{slice_get_past}
 use Rattle.lg_base.specs.Layout.{code_base}
 use Rattle.lg_op.specs.declared.node.Node.{Node}
 use Rattle.lg_prof.specs.Places.{AreLines, Holds}
-use Rattle.lg_prof.specs.Spent.{lies_first, line_here, table_line}
+use Rattle.lg_cpu.specs.LineCounts.{table_line}
+use Rattle.lg_prof.specs.Spent.{lies_first, line_here}
 use Rattle.lg_prof.specs.Laws.{TablesHaveLines}
 
 -- a line is that of a node whose bytes hold the place, or there is none, and then no node's bytes hold it

@@ -9,7 +9,8 @@ use Rattle.lg_prof.specs.Places.{AreLines}
 use Rattle.lg_prof.specs.Tallies.{AreBelow}
 use Rattle.lg_prof.specs.Counted.{all_made, total}
 use Rattle.lg_prof.specs.Counts.{count, has_meant}
-use Rattle.lg_prof.specs.Spent.{code_line, has_run, spent, table_line}
+use Rattle.lg_cpu.specs.LineCounts.{table_line}
+use Rattle.lg_prof.specs.Spent.{code_line, has_run, spent}
 
 -- the steps of the meaning that went or ended, by lines: where each node's line is below a number, the numbers of the lines below it add up to them all
 abbrev pub CountsAddUp : Type 0

@@ -1,6 +1,7 @@
 -- How many of the steps of a processor belong to a line.
-use Rattle.std.specs.Prelude.{ℕ, zero, suc, ◌-◌, Bool, true, false, not, ◌&&◌, nat_le, nat_lt, if◌then◌else◌, Option, Some, None, List, [], ◌∷◌, drop, slice_get, unwrap_or}
+use Rattle.std.specs.Prelude.{ℕ, suc, ◌-◌, Bool, true, false, not, ◌&&◌, nat_le, nat_lt, if◌then◌else◌, Option, Some, None, List, [], ◌∷◌, drop}
 use Rattle.lg_base.specs.Layout.{code_base}
+use Rattle.lg_cpu.specs.LineCounts.{line_by}
 use Rattle.lg_cpu.specs.States.{CpuState}
 use Rattle.lg_cpu.specs.Steps.{Progress, Run, Goes, EndedWith, Faulted}
 use Rattle.lg_op.specs.declared.node.Node.{Node}
@@ -20,15 +21,10 @@ line_here (n ∷ nodes) places place = if lies_first places place then Some n.li
 abbrev pub code_line : List Node → (places : List ℕ) → (pc : ℕ) → Option ℕ
 code_line nodes places pc = if nat_le code_base pc then line_here nodes places (pc - code_base) else None
 
--- and by a table that has a line for each place
-abbrev pub table_line : (lines : List ℕ) → (pc : ℕ) → Option ℕ
-table_line lines pc = if nat_le code_base pc then slice_get lines (pc - code_base) else None
-
 -- the line of the last of the first n steps whose program counter lay in the code: a host step, which begins outside, counts for the line of the code step
 -- before it. No line of a node is 0, and the first step begins in the code
-unfoldable pub line_after : (line_of : ℕ → Option ℕ) → (ℕ → Run CpuState) → ℕ → ℕ
-line_after line_of run zero = 0
-line_after line_of run (suc n) = unwrap_or (line_of (run n).state.pc) (line_after line_of run n)
+abbrev pub line_after : (line_of : ℕ → Option ℕ) → (ℕ → Run CpuState) → ℕ → ℕ
+line_after line_of run n = line_by line_of run 0 n
 
 abbrev pub is_going : Progress → Bool
 is_going Goes = true

@@ -1,25 +1,15 @@
 // Running code, counted by lines.
 
-ghost use Rattle.std.specs.Prelude.{◌≡◌, ◌<◌, ◌≤◌, ◌+◌, ◌-◌, ◌^◌, ℕ, Some, length, slice_get, unwrap_or};
+ghost use Rattle.std.specs.Prelude.{◌≡◌, ◌<◌, ◌-◌, ◌^◌, ℕ, Some, length, slice_get};
+ghost use Rattle.lg_cpu.specs.LineCounts.{table_line};
 ghost use Rattle.lg_cpu.specs.Machines.{shown};
 ghost use Rattle.lg_cpu.specs.Series.{Advances, run_from};
 ghost use Rattle.lg_prof.specs.Tallies.{ran_at, spent_at};
-ghost use Rattle.lg_prof.specs.Spent.{spent, table_line};
+ghost use Rattle.lg_prof.specs.Spent.{spent};
 
 use crate::{LineTable, Tally};
-use lg_base::layout::CODE_BASE;
 use lg_cpu::{Cpu, CpuStep};
 use lg_io::Sink;
-
-// Returns the line of a program counter, and the one before where it lies in no node's bytes.
-fn line_at(lines: &LineTable, pc: u64, before: u32) -> u32
-    ensures { result ≡ unwrap_or (table_line lines.now pc) before }
-{
-    if pc < CODE_BASE {
-        return before;
-    }
-    lines.get(pc - CODE_BASE).unwrap_or(before)
-}
 
 /// Takes steps as `Cpu::run` does, and counts each that went or ended for the line of its program counter, by a table of the lines of the code; a host
 /// step for the line of the code step before it. The run goes on, has taken no step yet, and takes fewer than `u64::MAX`; the lines of the table are
@@ -42,17 +32,5 @@ pub fn run_counted<O: Sink>(
     ensures ran { (line : ℕ) → ran_at tally.new line ≡ ran_at tally.old line }
     ensures kept { length tally.new ≡ length tally.old }
 {
-    let mut line = 0;
-    for _went in 0..most {
-        line = line_at(lines, cpu.pc(), line);
-        match cpu.step(out) {
-            CpuStep::Went => tally.spent(line),
-            CpuStep::Ended(status) => {
-                tally.spent(line);
-                return CpuStep::Ended(status);
-            }
-            answer => return answer,
-        }
-    }
-    CpuStep::Went
+    cpu.run_counted(most, lines.as_slice(), &mut tally.spent, out)
 }

@@ -45,10 +45,10 @@ impl LineTable {
         Ok(LineTable { lines })
     }
 
-    /// Returns the line of a place, or `None` if no node's bytes hold it. It takes the same time for each place.
-    pub fn get(&self, place: u64) -> Option<u32>
-        ensures { result ≡ slice_get self.now place }
+    /// Returns the lines, each at its place.
+    pub fn as_slice(&self) -> &[u32]
+        ensures { result.now ≡ self.now }
     {
-        self.lines.get(place as usize).copied()
+        &self.lines
     }
 }

@@ -32,7 +32,8 @@ use Rattle.lg_prof.specs.declared.tally.Counts.{Counts}
 use Rattle.lg_prof.specs.Counted.{total}
 use Rattle.lg_prof.specs.Counts as counts
 use Rattle.lg_prof.specs.Laws.{CountsAddUp, SpentAddsUp, TablesHaveLines}
-use Rattle.lg_prof.specs.Spent.{code_line, has_run, is_fault, is_going, spent, table_line}
+use Rattle.lg_cpu.specs.LineCounts.{table_line}
+use Rattle.lg_prof.specs.Spent.{code_line, has_run, is_fault, is_going, spent}
 use Rattle.lg_prof.proofs.SpentLemmas.{line_of_node, spent_same}
 use Rattle.lg_prof.proofs.SumLemmas.{all_are_made}
 use Rattle.lg_prof.proofs.TableLemmas.{line_is}

@@ -16,7 +16,8 @@ use Rattle.lg_prof.specs.Places.{AreLines}
 use Rattle.lg_prof.specs.Tallies.{AreBelow, ran_at, spent_at}
 use Rattle.lg_prof.specs.declared.tally.Counts.{Counts}
 use Rattle.lg_prof.specs.Counts.{count}
-use Rattle.lg_prof.specs.Spent.{spent, table_line}
+use Rattle.lg_cpu.specs.LineCounts.{table_line}
+use Rattle.lg_prof.specs.Spent.{spent}
 use Rattle.lg_run.specs.Explanations.{StuckFor, StuckIn, tells_stuck}
 use Rattle.lg_run.specs.Profiles.{TableFor, TableIn, table_of, tells_table}
 use Rattle.lg_run.specs.Refused.{IsTextIn, IsTextUnder, IsUnitOf}

@@ -1,6 +1,7 @@
-use Rattle.std.proofs.Common.{◌≡◌, ◌+◌, ◌-◌, ◌≤◌, ℕ, List}
+use Rattle.std.proofs.Common.{◌≡◌, ◌+◌, ◌-◌, ◌<◌, ◌≤◌, ℕ, List, length}
 use Rattle.std.specs.Io.KnownBytes.{Appends}
-use Rattle.lg_cpu.specs.Series.{IsAt, going_on}
+use Rattle.lg_cpu.specs.LineCounts.{AddsSteps}
+use Rattle.lg_cpu.specs.Series.{IsAt, going_on, run_from}
 use Rattle.lg_cpu.proofs.series.advance.Given as goal
 
 abbrev pub invariant-loop-went : goal.invariant-loop-went
@@ -9,6 +10,8 @@ invariant-loop-went g l = record {
       × Appends (g.O.Sink.taken l.fn.out) (g.O.Sink.taken l.out) out;
   faults : g.O.Sink.faults l.out ≡ g.O.Sink.faults l.fn.out;
   within : l.went ≤ l.most;
+  counts : AddsSteps l.lines (run_from (going_on (g.P.Stepping.inner l.fn.processor) l.fn.steps)) 0 l.line l.went l.fn.counts l.counts;
+  below : 0 < length l.fn.counts → l.line < length l.fn.counts;
 }
 
 abbrev pub decreases-loop-went : goal.decreases-loop-went

@@ -1,4 +1,4 @@
-use Rattle.std.proofs.Common.{◌≡◌, ◌≢◌, ◌≤◌, ℕ, subst, arith}
+use Rattle.std.proofs.Common.{◌≡◌, subst, arith}
 use Rattle.std.proofs.lemmas.Bool.Decides.{nat_tests}
 use Rattle.lg_cpu.specs.Machines.{Inner, StepSays, effect_in}
 use Rattle.lg_cpu.specs.declared.answer.CpuStep.TheVariants as cpu
