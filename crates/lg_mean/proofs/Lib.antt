@@ -6,6 +6,7 @@ pub mod FrameLemmas
 pub mod HostLemmas
 pub mod KnownLemmas
 pub mod LandingLemmas
+pub mod LineLemmas
 pub mod ReadLemmas
 pub mod ResolvedLemmas
 pub mod ResultLemmas

@@ -95,7 +95,7 @@ goes_more f g n s t u same h goes bytes =
     ap (λ k. iter (run_step f) k (run_at s bytes)) more ∙ ap (run_step f) (h bytes)
     ∙ ap (behind (run_at t bytes)) (sym (ap (λ (k : State → Outcome). k t) same) ∙ goes) ∙ ap (run_at u) (append-nil bytes)
 
-iter_plus : {S : Type 0} (step : S → S) (n m : ℕ) (s : S) → iter step (n + m) s ≡ iter step m (iter step n s)
+pub iter_plus : {S : Type 0} (step : S → S) (n m : ℕ) (s : S) → iter step (n + m) s ≡ iter step m (iter step n s)
 unfolding iter
 iter_plus step n zero s = let none : n + 0 ≡ n = omega arith in ap (λ k. iter step k s) none
 iter_plus step n (suc m) s = let more : n + suc m ≡ suc (n + m) = omega arith in ap (λ k. iter step k s) more ∙ ap step (iter_plus step n m s)

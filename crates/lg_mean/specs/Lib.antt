@@ -1,5 +1,6 @@
 pub mod Entering
 pub mod Follows
+pub mod LineCounts
 pub mod Machines
 pub mod Portables
 pub mod Programs

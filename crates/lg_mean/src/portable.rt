@@ -1,6 +1,6 @@
 // The portable machine with its text.
 
-ghost use Rattle.std.specs.Prelude.{◌≡◌, ◌<◌, ◌≤◌, ◌-◌, ◌+◌, ◌^◌, ◌&&◌, ℕ, length, nat_le, false, true, IsTrue, IfSome, IfNone, IfOk, Some, None, []};
+ghost use Rattle.std.specs.Prelude.{◌≡◌, ◌<◌, ◌≤◌, ◌-◌, ◌+◌, ◌^◌, ◌&&◌, ℕ, length, List, nat_le, slice_index_or, false, true, IsTrue, IfSome, IfNone, IfOk, Some, None, []};
 ghost use Rattle.std.specs.Io.KnownBytes.{Appends};
 ghost use Rattle.lg_base.specs.Arguments.{most_args};
 ghost use Rattle.lg_node.specs.Labels.{place_of, is_entry};
@@ -11,6 +11,7 @@ ghost use Rattle.lg_meaning.specs.Starts.{start_state, begins_at, entered_state,
 ghost use Rattle.lg_meaning.specs.States.{reg};
 ghost use Rattle.lg_meaning.specs.Steps.{Goes, Undefined};
 ghost use Rattle.lg_meaning.specs.Texts.{step, line_at};
+ghost use Rattle.lg_mean.specs.LineCounts.{AreBelow, CountsStep, CountsSteps, begun, run_from};
 ghost use Rattle.lg_mean.specs.Machines.{state_of};
 ghost use Rattle.lg_mean.specs.Programs.{IsTableOf};
 ghost use Rattle.lg_mean.specs.Results.{word_left};
@@ -140,17 +141,46 @@ impl Portable {
         self.go(unit, shape, out)
     }
 
-    // A step of a machine that is not over, by the node with its operands looked up: whether it goes so. It writes nothing, and else nothing changes.
+    // Counts the step that comes next for the line of its node, where steps are counted.
+    #[inline(always)]
+    fn count_line(&self, unit: &Unit, ran: &mut [u64])
+        requires here { (state_of self.now.machine).at < length unit.now.nodes.nodes }
+        requires lines { 0 < length ran.old → AreBelow unit.now.nodes.nodes (length ran.old) }
+        requires room { 0 < length ran.old → (line : ℕ) → slice_index_or ran.old line 0 < 2 ^ 64 - 1 }
+        ensures kept { length ran.new ≡ length ran.old }
+        ensures ran { CountsStep (line_at unit.now.nodes (state_of self.now.machine)) ran.old ran.new }
+    {
+        if !ran.is_empty() {
+            let line = unit.nodes.node_at(self.machine.place()).line;
+            ran[line as usize] += 1;
+        }
+    }
+
+    // Takes it back, after which it counts for no line.
+    pub(crate) fn take_back(&self, unit: &Unit, ran: &mut [u64])
+        requires here { (state_of self.now.machine).at < length unit.now.nodes.nodes }
+        requires lines { 0 < length ran.old → AreBelow unit.now.nodes.nodes (length ran.old) }
+        requires some { 0 < length ran.old → 0 < slice_index_or ran.old (line_at unit.now.nodes (state_of self.now.machine)) 0 }
+        ensures kept { length ran.new ≡ length ran.old }
+        ensures ran { CountsStep (line_at unit.now.nodes (state_of self.now.machine)) ran.new ran.old }
+    {
+        if !ran.is_empty() {
+            let line = unit.nodes.node_at(self.machine.place()).line;
+            ran[line as usize] -= 1;
+        }
+    }
+
+    // A step of a machine that is not over, by the node with its operands looked up: whether it goes so. It writes nothing, and else nothing changes. The step
+    // is not counted yet.
     #[inline(always)]
     fn go_resolved(&mut self, unit: &Unit, shape: &Shape) -> bool
         requires made { IsTableOf unit.now.nodes shape.now self.old.labels }
         requires fits { Fits unit.now.nodes shape.now (state_of self.old.machine) }
-        requires count { self.old.steps < 2 ^ 64 - 1 }
         requires running { self.old.over ≡ None }
         ensures goes { result ≡ true
             → step unit.now.nodes shape.now self.old.labels.addresses (state_of self.old.machine) ≡ Goes (state_of self.new.machine) [] }
-        ensures steps { result ≡ true → self.new.steps ≡ self.old.steps + 1 }
-        ensures stays { result ≡ false → (state_of self.new.machine ≡ state_of self.old.machine) × (self.new.steps ≡ self.old.steps) }
+        ensures steps { self.new.steps ≡ self.old.steps }
+        ensures stays { result ≡ false → state_of self.new.machine ≡ state_of self.old.machine }
         ensures fits { Fits unit.now.nodes shape.now (state_of self.new.machine) }
         ensures over { self.new.over ≡ None }
         ensures labels { self.new.labels ≡ self.old.labels }
@@ -160,36 +190,46 @@ impl Portable {
         unit.nodes.what_holds();
         let _ = unit.nodes.node_at(self.machine.place());
         let node = self.labels.node(self.machine.place());
-        if self.machine.step_resolved(node) {
-            self.steps += 1;
-            return true;
-        }
-        false
+        self.machine.step_resolved(node)
     }
 
-    // Takes steps by nodes with their operands looked up until one does not go so, and at most this many: returns how many went. It is one loop whatever sink
-    // the run writes to, and the one place of a program where such nodes are stepped.
+    // Takes steps by nodes with their operands looked up until one does not go so, and at most this many: returns how many went. Each that it begins counts for
+    // the line of its node, where steps are counted. It is one loop whatever sink the run writes to, and the one place of a program where such nodes are
+    // stepped.
     #[inline(never)]
-    pub(crate) fn run_resolved(&mut self, unit: &Unit, shape: &Shape, most: u64) -> u64
+    pub(crate) fn run_resolved(
+        &mut self,
+        unit: &Unit,
+        shape: &Shape,
+        most: u64,
+        ran: &mut [u64],
+    ) -> u64
         requires made { IsTableOf unit.now.nodes shape.now self.old.labels }
         requires fits { Fits unit.now.nodes shape.now (state_of self.old.machine) }
         requires running { self.old.over ≡ None }
         requires count { self.old.steps + most < 2 ^ 64 }
+        requires lines { 0 < length ran.old → AreBelow unit.now.nodes.nodes (length ran.old) }
+        requires room { 0 < length ran.old → (line : ℕ) → slice_index_or ran.old line 0 + most < 2 ^ 64 }
         ensures few { result ≤ most }
         ensures goes { GoesFor (step unit.now.nodes shape.now self.old.labels.addresses) result (state_of self.old.machine) (state_of self.new.machine) }
         ensures steps { self.new.steps ≡ self.old.steps + result }
         ensures fits { Fits unit.now.nodes shape.now (state_of self.new.machine) }
         ensures over { self.new.over ≡ None }
         ensures labels { self.new.labels ≡ self.old.labels }
+        ensures kept { length ran.new ≡ length ran.old }
+        ensures ran { (bytes : List ℕ) → CountsSteps unit.now.nodes (run_from (step unit.now.nodes shape.now self.old.labels.addresses)
+            (state_of self.old.machine) bytes) (begun result most) ran.old ran.new }
     {
-        let mut went = 0;
-        while went < most {
+        let mut left = most;
+        while left > 0 {
+            self.count_line(unit, ran);
             if !self.go_resolved(unit, shape) {
-                return went;
+                break;
             }
-            went += 1;
+            left -= 1;
         }
-        went
+        self.steps += most - left;
+        most - left
     }
 
     // One step of a machine that is not over: by the node with its operands looked up where that goes, else by the node.
@@ -211,7 +251,7 @@ impl Portable {
         ensures later { O.faults out.old ≤ O.faults out.new }
         ensures kept { KeepsCount result (O.faults out.old) (O.faults out.new) }
     {
-        if self.run_resolved(unit, shape, 1) == 1 {
+        if self.run_resolved(unit, shape, 1, &mut []) == 1 {
             return MeanStep::Went;
         }
         self.step_by_node(unit, shape, out)

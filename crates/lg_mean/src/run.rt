@@ -1,9 +1,10 @@
 // Runs of the portable machine.
 
-ghost use Rattle.std.specs.Prelude.{◌≡◌, ◌<◌, ◌≤◌, ◌-◌, ◌+◌, ◌^◌, None};
+ghost use Rattle.std.specs.Prelude.{◌≡◌, ◌<◌, ◌≤◌, ◌-◌, ◌+◌, ◌^◌, ℕ, length, slice_index_or, None};
 ghost use Rattle.lg_meaning.specs.Fits.{Fits};
 ghost use Rattle.lg_meaning.specs.Means.{mean_from};
 ghost use Rattle.lg_meaning.specs.Texts.{line_at};
+ghost use Rattle.lg_mean.specs.LineCounts.{AreBelow, CountsSteps};
 ghost use Rattle.lg_mean.specs.Machines.{state_of};
 ghost use Rattle.lg_mean.specs.Programs.{IsTableOf};
 ghost use Rattle.lg_mean.specs.Runs.{ComesTo, KeepsCountAfter, over_after};
@@ -52,16 +53,54 @@ impl Portable {
         ensures later { O.faults out.old ≤ O.faults out.new }
         ensures kept { KeepsCountAfter result (O.faults out.old) (O.faults out.new) }
     {
+        self.run_counted(unit, shape, most, &mut [], out)
+    }
+
+    /// Steps as `run` does, and counts each of the n steps for the line of its node, in a slice that has a number for each line of a node; none of them can
+    /// reach 2^64. Where the slice is empty, nothing is counted.
+    pub fn run_counted<O: Sink>(
+        &mut self,
+        unit: &Unit,
+        shape: &Shape,
+        most: u64,
+        ran: &mut [u64],
+        out: &mut O,
+    ) -> RunEnd
+        requires made { IsTableOf unit.now.nodes shape.now self.old.labels }
+        requires fits { Fits unit.now.nodes shape.now (state_of self.old.machine) }
+        requires running { self.old.over ≡ None }
+        requires count { self.old.steps + most < 2 ^ 64 }
+        requires lines { 0 < length ran.old → AreBelow unit.now.nodes.nodes (length ran.old) }
+        requires room { 0 < length ran.old → (line : ℕ) → slice_index_or ran.old line 0 + most < 2 ^ 64 }
+        ensures says { ComesTo (mean_from unit.now.nodes shape.now self.old.labels.addresses (state_of self.old.machine)) result
+            (self.new.steps - self.old.steps) most (state_of self.new.machine) (line_at unit.now.nodes (state_of self.new.machine))
+            (O.taken out.old) (O.taken out.new) (O.faults out.old) (O.faults out.new) }
+        ensures ran { CountsSteps unit.now.nodes (mean_from unit.now.nodes shape.now self.old.labels.addresses (state_of self.old.machine))
+            (self.new.steps - self.old.steps) ran.old ran.new }
+        ensures lines { length ran.new ≡ length ran.old }
+        ensures rises { self.old.steps ≤ self.new.steps }
+        ensures fits { Fits unit.now.nodes shape.now (state_of self.new.machine) }
+        ensures over { self.new.over ≡ over_after result }
+        ensures labels { self.new.labels ≡ self.old.labels }
+        ensures later { O.faults out.old ≤ O.faults out.new }
+        ensures kept { KeepsCountAfter result (O.faults out.old) (O.faults out.new) }
+    {
         steps_are_those_of_the_meaning();
         let mut taken = 0;
         while taken < most {
-            taken += self.run_resolved(unit, shape, most - taken);
+            taken += self.run_resolved(unit, shape, most - taken, ran);
             if taken < most {
                 match self.step_by_node(unit, shape, out) {
                     MeanStep::Went => taken += 1,
                     MeanStep::Ended(status) => return RunEnd::Ended(status),
-                    MeanStep::Undefined { line } => return RunEnd::Undefined { line },
-                    MeanStep::WriteFault => return RunEnd::WriteFault,
+                    MeanStep::Undefined { line } => {
+                        self.take_back(unit, ran);
+                        return RunEnd::Undefined { line };
+                    }
+                    MeanStep::WriteFault => {
+                        self.take_back(unit, ran);
+                        return RunEnd::WriteFault;
+                    }
                 }
             }
         }

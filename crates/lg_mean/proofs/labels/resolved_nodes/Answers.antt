@@ -1,5 +1,4 @@
-use Rattle.std.proofs.Common.{◌≡◌, ◌+◌, ◌∙◌, ap, sym, length, Some, refl, arith}
-use Rattle.std.specs.Prelude.{slice_get}
+use Rattle.std.proofs.Common.{◌+◌, ◌∙◌, ap, sym, length, refl, arith}
 use Rattle.std.proofs.lemmas.List.{length_push}
 use Rattle.lg_node.specs.ShapeLaws.{IsWellShaped}
 use Rattle.lg_meaning.specs.Texts.{text}

@@ -1,4 +1,4 @@
-use Rattle.std.proofs.Common.{◌≡◌, List, ℕ, sym, ◌∙◌, subst, refl}
+use Rattle.std.proofs.Common.{List, ℕ, sym, ◌∙◌, subst, refl}
 use Rattle.lg_op.specs.declared.operand.Operand.{Operand}
 use Rattle.lg_meaning.specs.Steps.{operand_at}
 use Rattle.lg_mean.specs.declared.resolved.Act.TheVariants as act
