@@ -1,11 +1,7 @@
 -- Lines that are written one after another.
-use Rattle.std.proofs.Common.{◌≡◌, ℕ, zero, suc, ◌+◌, ◌<◌, List, [], ◌++◌, inl, inr, refl, sym, ap, ◌∙◌, arith, append_assoc, append-nil, add-one, length, get_or}
-use Rattle.std.specs.Prelude.{slice_index_or}
+use Rattle.std.proofs.Common.{◌≡◌, ℕ, zero, suc, ◌+◌, ◌<◌, List, [], ◌++◌, inl, inr, refl, sym, ap, ◌∙◌, arith, append_assoc, append-nil, add-one}
 use Rattle.std.proofs.lemmas.Bool.{cases_lt}
-use Rattle.std.proofs.lemmas.List.{get_or_default}
 use Rattle.lg_prof.specs.Tables.{table_below, told_line}
-use Rattle.lg_prof.specs.Tallies.{no_counts, ran_at, spent_at}
-use Rattle.lg_prof.specs.declared.tally.Counts.{Counts}
 
 pub no_lines : (ran spent : ℕ → ℕ) → table_below ran spent 0 ≡ []
 unfolding table_below
@@ -34,10 +30,3 @@ lines_split ran spent line (suc top) lt = elim (cases_lt line top) [
       let same : suc top ≡ line + 1 = omega (arith, lt, other) in
       ([], ap (table_below ran spent) same ∙ line_more ran spent line ∙ ap (λ x. table_below ran spent line ++ x) (sym (append-nil (told_line line (ran line) (spent line)))))
 ]
-
--- a line of a tally, as it was read
-pub line_at : (counts tally : List Counts) (line : ℕ) (read : Counts) → counts ≡ tally → line < length counts → read ≡ get_or counts line read
-    → told_line line read.ran read.spent ≡ told_line line (ran_at tally line) (spent_at tally line)
-line_at counts tally line read same lt is =
-    let here : read ≡ slice_index_or tally line no_counts = is ∙ get_or_default counts line read no_counts lt ∙ ap (λ t. slice_index_or t line no_counts) same in
-    ap (λ (x : Counts). told_line line x.ran x.spent) here

@@ -1,10 +1,15 @@
 -- The numbers of the lines of a text.
-use Rattle.std.specs.Prelude.{◌≡◌, ℕ, ◌+◌, ◌<◌, ◌==◌, List, slice_get, slice_index_or, Some, if◌then◌else◌}
-use Rattle.lg_op.specs.declared.node.Node.{Node}
+use Rattle.std.specs.Prelude.{ℕ, ◌+◌, ◌==◌, List, [], ◌∷◌, slice_index_or, if◌then◌else◌}
+pub use Rattle.lg_mean.specs.LineCounts.{AreBelow}
 use Rattle.lg_prof.specs.declared.tally.Counts.{Counts}
 
 abbrev pub no_counts : Counts
 no_counts = record { ran = 0; spent = 0 }
+
+-- the numbers of each line, from two lists
+abbrev pub zipped : (ran spent : List ℕ) → List Counts
+zipped (r ∷ ran) (s ∷ spent) = record { ran = r; spent = s } ∷ zipped ran spent
+zipped ran spent = []
 
 -- how many steps of the text a line has, and how many of its code; a line that is in no tally has none
 abbrev pub ran_at : List Counts → ℕ → ℕ
@@ -16,7 +21,3 @@ spent_at tally line = (slice_index_or tally line no_counts).spent
 -- one more at a line
 abbrev pub one_more : (ℕ → ℕ) → ℕ → ℕ → ℕ
 one_more numbers line l = if l == line then numbers l + 1 else numbers l
-
--- the lines of nodes are below a number
-abbrev pub AreBelow : List Node → ℕ → Type 0
-AreBelow nodes top = (i : ℕ) (n : Node) → slice_get nodes i ≡ Some n → n.line < top

@@ -9,8 +9,7 @@ ghost use Rattle.lg_prof.specs.Tallies.{AreBelow, ran_at, spent_at};
 ghost use Rattle.lg_prof.specs.Counts.{count};
 
 use crate::{Nowhere, Tally};
-use lg_mean::{MeanStep, Portable};
-use lg_meaning::laws::steps_are_those_of_the_meaning;
+use lg_mean::Portable;
 use lg_node::{Shape, Unit};
 
 /// Takes at most this many steps of the portable meaning of a text, from the state before its first step, into a sink that keeps nothing, and counts each
@@ -35,18 +34,5 @@ pub fn count_meaning(
     ensures spent { (line : ℕ) → spent_at tally.new line ≡ spent_at tally.old line }
     ensures kept { length tally.new ≡ length tally.old }
 {
-    steps_are_those_of_the_meaning();
-    let mut nowhere = Nowhere;
-    for _turn in 0..most {
-        let line = unit.nodes.node_at(machine.at()).line;
-        match machine.step(unit, shape, &mut nowhere) {
-            MeanStep::Went => tally.ran(line),
-            MeanStep::Ended(_) => {
-                tally.ran(line);
-                return;
-            }
-            MeanStep::Undefined { .. } => return,
-            MeanStep::WriteFault => return,
-        }
-    }
+    let _ = machine.run_counted(unit, shape, most, &mut tally.ran, &mut Nowhere);
 }

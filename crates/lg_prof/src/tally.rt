@@ -1,9 +1,9 @@
 // The numbers of lines.
 
-ghost use Rattle.std.specs.Prelude.{◌≡◌, ◌<◌, ◌≤◌, ◌+◌, ◌-◌, ◌^◌, ℕ, IfOk, length};
+ghost use Rattle.std.specs.Prelude.{◌≡◌, ◌<◌, ◌≤◌, ◌+◌, ◌-◌, ◌^◌, ℕ, IfOk, length, replicate, slice_index_or};
 ghost use Rattle.lg_io.specs.Wrote.{Wrote};
 ghost use Rattle.lg_prof.specs.Tables.{table, told_line, numbers_line};
-ghost use Rattle.lg_prof.specs.Tallies.{AreBelow, one_more, ran_at, spent_at};
+ghost use Rattle.lg_prof.specs.Tallies.{AreBelow, no_counts, one_more, ran_at, spent_at};
 
 use lg_base::OutOfMemory;
 use lg_io::{Digits, Radix, Sink, SinkFault, write_parts};
@@ -21,16 +21,20 @@ struct Counts {
 /// For each line of a text the number of steps of the text and the number of steps of its code.
 #[derive(Drop)]
 pub struct Tally {
-    counts: Vec<Counts>,
+    pub(crate) ran: Vec<u64>,
+    pub(crate) spent: Vec<u64>,
 }
 
 impl Model for Tally {
-    ghost use Rattle.std.specs.Prelude.{List};
+    ghost use Rattle.std.specs.Prelude.{◌≡◌, List, length};
     ghost use Rattle.lg_prof.specs.declared.tally.Counts.{Counts};
+    ghost use Rattle.lg_prof.specs.Tallies.{zipped};
 
     ghost Value = { List Counts };
 
-    ghost view = { λ t. t.counts.items };
+    ghost view = { λ t. zipped t.ran.items t.spent.items };
+
+    ghost invariant = { λ t. length t.spent.items ≡ length t.ran.items };
 }
 
 // One more than the greatest line of nodes, and 1 where there are none.
@@ -43,6 +47,13 @@ fn top_of(nodes: &NodeList) -> usize
         top = top.max(nodes.node(index).line as usize + 1);
     }
     top
+}
+
+// Returns this many numbers, all of them 0.
+fn zeros(alloc: Global, count: usize) -> Result<Vec<u64>, OutOfMemory>
+    ensures { IfOk result (λ v. v.items ≡ replicate count 0) }
+{
+    Ok(vec![in alloc; 0; count]?)
 }
 
 // Writes the numbers of a line, by their digits.
@@ -84,8 +95,23 @@ impl Tally {
         ensures ran { IfOk result (λ t. (line : ℕ) → ran_at t line ≡ 0) }
         ensures spent { IfOk result (λ t. (line : ℕ) → spent_at t line ≡ 0) }
     {
-        let counts = vec![in alloc; Counts { ran: 0, spent: 0 }; top_of(nodes)]?;
-        Ok(Tally { counts })
+        let top = top_of(nodes);
+        let ran = zeros(alloc, top)?;
+        let spent = zeros(alloc, top)?;
+        Ok(Tally { ran, spent })
+    }
+
+    // Returns the numbers of a line, which are 0 where it has none.
+    fn counts(&self, line: usize) -> Counts
+        ensures { result ≡ slice_index_or self.now line no_counts }
+    {
+        if line < self.ran.len() {
+            return Counts {
+                ran: self.ran[line],
+                spent: self.spent[line],
+            };
+        }
+        Counts { ran: 0, spent: 0 }
     }
 
     /// A step of the text more at a line, which is at most the greatest of the nodes that `new` was given; its number is below `u64::MAX`.
@@ -96,7 +122,7 @@ impl Tally {
         ensures ran { (l : ℕ) → ran_at self.new l ≡ one_more (ran_at self.old) line l }
         ensures spent { (l : ℕ) → spent_at self.new l ≡ spent_at self.old l }
     {
-        self.counts[line as usize].ran += 1;
+        self.ran[line as usize] += 1;
     }
 
     /// A step of the code more at a line, which is at most the greatest of the nodes that `new` was given; its number is below `u64::MAX`.
@@ -107,17 +133,15 @@ impl Tally {
         ensures ran { (l : ℕ) → ran_at self.new l ≡ ran_at self.old l }
         ensures spent { (l : ℕ) → spent_at self.new l ≡ one_more (spent_at self.old) line l }
     {
-        self.counts[line as usize].spent += 1;
+        self.spent[line as usize] += 1;
     }
 
     /// Returns the steps of the text and those of the code at a line: both are 0 at a line that no node has.
     pub fn of(&self, line: u32) -> (u64, u64)
         ensures { result ≡ (ran_at self.now line, spent_at self.now line) }
     {
-        match self.counts.get(line as usize) {
-            Some(counts) => (counts.ran, counts.spent),
-            None => (0, 0),
-        }
+        let Counts { ran, spent } = self.counts(line as usize);
+        (ran, spent)
     }
 
     /// Writes `line L steps S instructions I` for each line one of whose numbers is not 0, rising. After a fault some of the bytes were written, from the
@@ -125,8 +149,8 @@ impl Tally {
     pub fn write<E: Sink>(&self, err: &mut E) -> Result<(), SinkFault>
         ensures { Wrote (E.taken err.old) (E.taken err.new) (E.faults err.old) (E.faults err.new) result (table self.now) }
     {
-        for line in 0..self.counts.len() {
-            let Counts { ran, spent } = self.counts[line];
+        for line in 0..self.ran.len() {
+            let Counts { ran, spent } = self.counts(line);
             match write_line(line as u64, ran, spent, err) {
                 Ok(()) => {}
                 Err(fault) => return Err(fault),
