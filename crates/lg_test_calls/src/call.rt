@@ -1,6 +1,6 @@
 // Calls of the program. What the top call promises is for proofs, and of no use here: so one function makes it, and passes on its outcome.
 
-use lg_asm::Code;
+use crate::held::Assembled;
 use lg_base::OutOfMemory;
 use lg_io::{MemorySink, MemoryTexts, Sink, StdTexts, Texts};
 use lg_run::{Answer, Done, lightning};
@@ -35,11 +35,20 @@ pub fn words_of(alloc: Global, line: &str, further: &str) -> Result<Vec<String>,
 }
 
 /// The outcome of a call: its answer, and what it wrote to both outputs.
-#[derive(Drop)]
 pub struct Called {
     pub answer: Answer,
     pub out: MemorySink,
     pub err: MemorySink,
+}
+
+impl Drop for Called {
+    fn drop(self) {
+        let Called {
+            answer: _,
+            out: _out,
+            err: _err,
+        } = self;
+    }
 }
 
 // The outcome of a call over texts: every call here is made by it. What the top call promises is quick to prove of any texts and sinks.
@@ -53,6 +62,19 @@ fn done_on<T: Texts, O: Sink, E: Sink>(
     lightning(alloc, words, texts, out, err)
 }
 
+// The answer of what is done.
+fn answer_of(done: Done) -> Answer {
+    done.answer
+}
+
+// The code of what is done, where it made any.
+fn code_in(done: Done) -> Option<Assembled> {
+    match done.code {
+        Some(code) => Some(Assembled { code }),
+        None => None,
+    }
+}
+
 // The answer of a call over texts.
 fn answer_on<T: Texts>(
     alloc: Global,
@@ -61,7 +83,7 @@ fn answer_on<T: Texts>(
     out: &mut MemorySink,
     err: &mut MemorySink,
 ) -> Answer {
-    done_on(alloc, words, texts, out, err).answer
+    answer_of(done_on(alloc, words, texts, out, err))
 }
 
 /// Calls that fail, by their numbers from 1 on, or 0 for none: of the texts, of the standard output and of the standard error; and how many bytes the
@@ -138,18 +160,18 @@ fn code_on<T: Texts>(
     alloc: Global,
     words: &Vec<String>,
     texts: &mut T,
-) -> Result<Option<Code>, OutOfMemory> {
+) -> Result<Option<Assembled>, OutOfMemory> {
     let mut out = MemorySink::new(alloc, ROOM, &[])?;
     let mut err = MemorySink::new(alloc, ROOM, &[])?;
-    Ok(done_on(alloc, words, texts, &mut out, &mut err).code)
+    Ok(code_in(done_on(alloc, words, texts, &mut out, &mut err)))
 }
 
 /// Returns the code of a call over the text `t.tst`, where it makes any.
-pub fn code_on_text(
+pub(crate) fn code_on_text(
     alloc: Global,
     words: &Vec<String>,
     text: &[u8],
-) -> Result<Option<Code>, OutOfMemory> {
+) -> Result<Option<Assembled>, OutOfMemory> {
     let mut texts = texts_of(alloc, ("t.tst", text), 0)?;
     code_on(alloc, words, &mut texts)
 }

@@ -3,13 +3,12 @@
 // and the result register has the text's result. Where a host function ends it, control is at that function's entry. Register numbers are those of the
 // conventions' documents: System V for x86-64 (rbx, rbp, r12 to r15), AAPCS64 (x19 to x29), and the RISC-V calling convention (s0 to s11).
 
-ghost use Rattle.std.specs.Prelude.{◌<◌, ◌≤◌, length};
-ghost use Rattle.lg_base.specs.Arguments.{most_args};
-ghost use Rattle.lg_base.specs.Layout.{most_code};
+ghost use Rattle.std.specs.Prelude.{◌<◌};
 
-use crate::disturbed::{ANYTHING, MOST_STEPS, ROOM, args_of, code_of, fit, unit_of};
+use crate::disturbed::{MOST_STEPS, ROOM, code_of, unit_of};
+use crate::held::start;
 use lg_asm::Code;
-use lg_base::{ArgImage, HostName, OutOfMemory, Stop};
+use lg_base::{HostName, Stop};
 use lg_cpu::{Cpu, CpuStep};
 use lg_io::MemorySink;
 use lg_node::Unit;
@@ -140,37 +139,34 @@ pub(crate) fn has_ended(cpu: &mut Cpu, out: &mut MemorySink) -> bool {
     false
 }
 
+/// How a call from a state ends of a processor that is at its first instruction, and whose registers are filled for it.
+pub(crate) fn ending(cpu: &mut Cpu, convention: Convention, state: u64, out: &mut MemorySink) -> End
+    requires stack { convention.stack < 32 }
+    requires result { convention.result < 32 }
+{
+    let stack = cpu.register(convention.stack);
+    if has_ended(cpu, out) {
+        end_of(cpu, convention, stack, state)
+    } else {
+        End::Otherwise
+    }
+}
+
 // How the call of code from a state ends.
 fn call(
     alloc: Global,
     code: &Code,
     unit: &Unit,
-    args: &ArgImage,
     convention: Convention,
     state: u64,
-) -> Result<End, OutOfMemory>
-    requires code { length code.now.bytes ≤ most_code }
-    requires image { length unit.now.image ≤ 0x1000000 }
-    requires args { length args.now ≤ most_args }
+) -> Result<End, Stop>
     requires stack { convention.stack < 32 }
     requires result { convention.result < 32 }
 {
     let mut out = MemorySink::new(alloc, ROOM, &[])?;
-    let mut cpu = Cpu::new(
-        alloc,
-        code.target(),
-        code.bytes(),
-        &unit.image,
-        args,
-        ANYTHING,
-    )?;
-    let stack = cpu.register(convention.stack);
-    fill(&mut cpu, convention, state);
-    if has_ended(&mut cpu, &mut out) {
-        Ok(end_of(&cpu, convention, stack, state))
-    } else {
-        Ok(End::Otherwise)
-    }
+    let mut started = start(alloc, code, unit, "")?;
+    fill(&mut started.cpu, convention, state);
+    Ok(ending(&mut started.cpu, convention, state, &mut out))
 }
 
 // Whether the code of a unit ends as it should from every state.
@@ -184,12 +180,8 @@ fn ends_so(
     requires stack { convention.stack < 32 }
     requires result { convention.result < 32 }
 {
-    if !fit(code, unit) {
-        return Ok(false);
-    }
-    let args = args_of(alloc, "")?;
     for state in 0..STATES {
-        let end = call(alloc, code, unit, &args, convention, state)?;
+        let end = call(alloc, code, unit, convention, state)?;
         if !is_end(end, wanted) {
             return Ok(false);
         }
@@ -209,9 +201,15 @@ pub(crate) fn is_end(end: End, wanted: &str) -> bool {
 
 // Whether the code of a text for a target ends as it should.
 fn text_ends_so(alloc: Global, target: &str, text: &str, wanted: &str) -> Result<bool, Stop> {
-    let unit = unit_of(alloc, text.as_bytes())?;
-    let code = code_of(alloc, target, text.as_bytes())?;
-    ends_so(alloc, &code, &unit, convention_of(target), wanted)
+    let parsed = unit_of(alloc, text.as_bytes())?;
+    let assembled = code_of(alloc, target, text.as_bytes())?;
+    ends_so(
+        alloc,
+        &assembled.code,
+        &parsed.unit,
+        convention_of(target),
+        wanted,
+    )
 }
 
 // Calls a text of the table, which has its name and its result in its first line.

@@ -7,6 +7,7 @@ ghost use Rattle.lg_base.specs.Layout.{most_code};
 ghost use Rattle.lg_tst.specs.Answers.{IsWhole};
 
 use crate::call::{code_on_text, words_of};
+use crate::held::{Assembled, Parsed, start};
 use lg_asm::Code;
 use lg_base::{ArgImage, OutOfMemory, Stop, args_image};
 use lg_cpu::{Cpu, CpuStep};
@@ -37,14 +38,15 @@ const WORDS: u64 = 64;
 pub(crate) const ROOM: usize = 1_048_576;
 
 /// Returns the unit of a text of at most 16,777,216 bytes.
-pub(crate) fn unit_of(alloc: Global, text: &[u8]) -> Result<Unit, Stop>
-    ensures { IfOk result IsWhole }
+pub(crate) fn unit_of(alloc: Global, text: &[u8]) -> Result<Parsed, Stop>
+    ensures { IfOk result (λ parsed. IsWhole parsed.unit) }
 {
     if text.len() > MOST_TEXT {
         return Err(Stop::OutOfMemory);
     }
     let expanded = expand(alloc, text)?;
-    parse(alloc, expanded.as_slice())
+    let unit = parse(alloc, expanded.as_slice())?;
+    Ok(Parsed { unit })
 }
 
 // Returns the words of a call that takes one step of a text's code for a target.
@@ -54,7 +56,7 @@ fn step_words(alloc: Global, target: &str) -> Result<Vec<String>, OutOfMemory> {
 }
 
 /// Returns the code of a text for a target, by such a call.
-pub(crate) fn code_of(alloc: Global, target: &str, text: &[u8]) -> Result<Code, Stop> {
+pub(crate) fn code_of(alloc: Global, target: &str, text: &[u8]) -> Result<Assembled, Stop> {
     let words = step_words(alloc, target)?;
     code_on_text(alloc, &words, text)?.ok_or(Stop::OutOfMemory)
 }
@@ -86,10 +88,15 @@ fn stack_of(word: &str) -> Stack
 }
 
 // What a run wrote, and its last step's answer: `Went` where the most steps were taken.
-#[derive(Drop)]
 struct Ran {
     out: MemorySink,
     end: CpuStep,
+}
+
+impl Drop for Ran {
+    fn drop(self) {
+        let Ran { out: _out, end: _ } = self;
+    }
 }
 
 // Writes over what lies below the stack pointer and its zone, as far as there is memory.
@@ -122,30 +129,20 @@ fn run(cpu: &mut Cpu, stack: Stack, disturbs: bool, out: &mut MemorySink) -> Cpu
     CpuStep::Went
 }
 
-// Runs code from a new processor on, whose stack is disturbed or not.
+// Runs code from a new processor on, with words after the text's name, whose stack is disturbed or not.
 fn run_anew(
     alloc: Global,
     code: &Code,
     unit: &Unit,
-    args: &ArgImage,
+    further: &str,
     stack: Stack,
     disturbs: bool,
-) -> Result<Ran, OutOfMemory>
-    requires code { length code.now.bytes ≤ most_code }
-    requires image { length unit.now.image ≤ 0x1000000 }
-    requires args { length args.now ≤ most_args }
-    requires stack { stack.pointer < 32 }
+) -> Result<Ran, Stop>
+    requires { stack.pointer < 32 }
 {
     let mut out = MemorySink::new(alloc, ROOM, &[])?;
-    let mut cpu = Cpu::new(
-        alloc,
-        code.target(),
-        code.bytes(),
-        &unit.image,
-        args,
-        ANYTHING,
-    )?;
-    let end = run(&mut cpu, stack, disturbs, &mut out);
+    let mut started = start(alloc, code, unit, further)?;
+    let end = run(&mut started.cpu, stack, disturbs, &mut out);
     Ok(Ran { out, end })
 }
 
@@ -154,16 +151,13 @@ fn run_alike(
     alloc: Global,
     code: &Code,
     unit: &Unit,
-    args: &ArgImage,
+    further: &str,
     stack: Stack,
-) -> Result<bool, OutOfMemory>
-    requires code { length code.now.bytes ≤ most_code }
-    requires image { length unit.now.image ≤ 0x1000000 }
-    requires args { length args.now ≤ most_args }
-    requires stack { stack.pointer < 32 }
+) -> Result<bool, Stop>
+    requires { stack.pointer < 32 }
 {
-    let still = run_anew(alloc, code, unit, args, stack, false)?;
-    let disturbed = run_anew(alloc, code, unit, args, stack, true)?;
+    let still = run_anew(alloc, code, unit, further, stack, false)?;
+    let disturbed = run_anew(alloc, code, unit, further, stack, true)?;
     Ok(still.end == disturbed.end && still.out.bytes() == disturbed.out.bytes())
 }
 
@@ -178,23 +172,6 @@ pub(crate) fn args_of(alloc: Global, further: &str) -> Result<ArgImage, Stop>
     args_image(alloc, &words)
 }
 
-// Whether code and a unit that fit the memory run alike with words after the text's name.
-fn code_runs_alike(
-    alloc: Global,
-    code: &Code,
-    unit: &Unit,
-    stack: Stack,
-    further: &str,
-) -> Result<bool, Stop>
-    requires { stack.pointer < 32 }
-{
-    if !fit(code, unit) {
-        return Ok(false);
-    }
-    let args = args_of(alloc, further)?;
-    Ok(run_alike(alloc, code, unit, &args, stack)?)
-}
-
 // Whether the code of a text for a target runs alike with words after its name, over the text's unit.
 fn unit_runs_alike(
     alloc: Global,
@@ -203,13 +180,13 @@ fn unit_runs_alike(
     unit: &Unit,
     further: &str,
 ) -> Result<bool, Stop> {
-    let code = code_of(alloc, target, text)?;
-    code_runs_alike(alloc, &code, unit, stack_of(target), further)
+    let assembled = code_of(alloc, target, text)?;
+    run_alike(alloc, &assembled.code, unit, further, stack_of(target))
 }
 
 /// Whether the code of a text for a target, with words after its name, writes the same bytes and ends in the same way where its stack is disturbed as where
 /// it is not.
 pub fn is_alike(alloc: Global, target: &str, text: &[u8], further: &str) -> Result<bool, Stop> {
-    let unit = unit_of(alloc, text)?;
-    unit_runs_alike(alloc, target, text, &unit, further)
+    let parsed = unit_of(alloc, text)?;
+    unit_runs_alike(alloc, target, text, &parsed.unit, further)
 }

@@ -70,7 +70,7 @@ const ADDRESSES: &[u64] = &[0x2000_0000, 0x2000_0001, 0x2000_0008];
 // Whether code has the addresses of the labels of its data part.
 fn gives_labels(alloc: Global, words: &Vec<String>) -> Result<bool, OutOfMemory> {
     match code_on_text(alloc, words, LABELS)? {
-        Some(code) => Ok(code.labels().as_slice() == ADDRESSES),
+        Some(assembled) => Ok(assembled.code.labels().as_slice() == ADDRESSES),
         None => Ok(false),
     }
 }

@@ -1,12 +1,13 @@
 // Calls functions of texts from outside, as a host does that compiles a unit once: each text's functions are called one after the other on one processor, over the
 // memory that the calls before left. Before each call every register that the call does not set gets another word, and after it the callee-saved ones are looked at.
 
-ghost use Rattle.std.specs.Prelude.{◌<◌, ◌≤◌, length, IfOk};
-ghost use Rattle.lg_base.specs.Layout.{most_code};
+ghost use Rattle.std.specs.Prelude.{◌<◌, IfOk};
+ghost use Rattle.lg_node.specs.Shapes.{IsShapeOf};
 ghost use Rattle.lg_tst.specs.Answers.{IsWhole};
 
-use crate::called::{Convention, End, convention_of, end_of, fill, has_ended, is_end};
-use crate::disturbed::{ANYTHING, ROOM, args_of, unit_of};
+use crate::called::{Convention, End, convention_of, ending, fill, is_end};
+use crate::disturbed::{ROOM, unit_of};
+use crate::held::{Assembled, Checked, start};
 use lg_asm::{Code, assemble_with};
 use lg_base::{OutOfMemory, Stop, Target};
 use lg_cpu::Cpu;
@@ -65,18 +66,26 @@ pub(crate) fn target_of(word: &str) -> Target {
     }
 }
 
+/// Returns the shape of a unit.
+pub(crate) fn shape_of(alloc: Global, unit: &Unit) -> Result<Checked, Stop>
+    ensures { IfOk result (λ checked. IsShapeOf unit.now.nodes checked.shape) }
+{
+    let shape = check(alloc, unit)?;
+    Ok(Checked { shape })
+}
+
 /// Returns the code of a unit whose functions at these labels are called from outside.
 pub(crate) fn code_with(
     alloc: Global,
     unit: &Unit,
     target: Target,
     entries: &[Label],
-) -> Result<Code, Stop>
+) -> Result<Assembled, Stop>
     requires { IsWhole unit.now }
-    ensures { IfOk result (λ c. length c.bytes ≤ most_code) }
 {
     let shape = check(alloc, unit)?;
-    assemble_with(alloc, unit, &shape, target, MOST_CODE, entries)
+    let code = assemble_with(alloc, unit, &shape, target, MOST_CODE, entries)?;
+    Ok(Assembled { code })
 }
 
 // Returns the words of a call that are in a line.
@@ -103,12 +112,8 @@ pub(crate) fn call(
     requires result { convention.result < 32 }
 {
     fill(cpu, convention, state);
-    if !cpu.enter(address, words) {
-        return End::Otherwise;
-    }
-    let stack = cpu.register(convention.stack);
-    if has_ended(cpu, out) {
-        end_of(cpu, convention, stack, state)
+    if cpu.enter(address, words) {
+        ending(cpu, convention, state, out)
     } else {
         End::Otherwise
     }
@@ -156,7 +161,27 @@ fn addresses_of(alloc: Global, code: &Code, functions: &[Label]) -> Result<Vec<u
     Ok(addresses)
 }
 
-// Makes the calls of the lines on code, and returns whether all ended as they should.
+// Makes the calls of the lines on a processor, and returns whether all ended as they should.
+fn make_lines(
+    alloc: Global,
+    cpu: &mut Cpu,
+    addresses: &[u64],
+    convention: Convention,
+    calls: &str,
+    out: &mut MemorySink,
+) -> Result<bool, OutOfMemory>
+    requires stack { convention.stack < 32 }
+    requires result { convention.result < 32 }
+{
+    for line in calls.lines() {
+        if !make_calls(alloc, cpu, addresses, convention, line, out)? {
+            return Ok(false);
+        }
+    }
+    Ok(true)
+}
+
+// The same on code, whose functions are at these labels.
 fn make_all(
     alloc: Global,
     unit: &Unit,
@@ -165,44 +190,49 @@ fn make_all(
     convention: Convention,
     calls: &str,
 ) -> Result<bool, Stop>
-    requires whole { IsWhole unit.now }
-    requires code { length code.now.bytes ≤ most_code }
     requires stack { convention.stack < 32 }
     requires result { convention.result < 32 }
 {
     let addresses = addresses_of(alloc, code, functions)?;
-    let args = args_of(alloc, "")?;
     let mut out = MemorySink::new(alloc, ROOM, &[])?;
-    let mut cpu = Cpu::new(
+    let mut started = start(alloc, code, unit, "")?;
+    Ok(make_lines(
         alloc,
-        code.target(),
-        code.bytes(),
-        &unit.image,
-        &args,
-        ANYTHING,
-    )?;
-    for line in calls.lines() {
-        if !make_calls(alloc, &mut cpu, &addresses, convention, line, &mut out)? {
-            return Ok(false);
-        }
-    }
-    Ok(true)
+        &mut started.cpu,
+        &addresses,
+        convention,
+        calls,
+        &mut out,
+    )?)
+}
+
+// The same on a unit for a target, whose functions are at these labels.
+fn unit_ends_so(
+    alloc: Global,
+    target: &str,
+    unit: &Unit,
+    functions: &[Label],
+    calls: &str,
+) -> Result<bool, Stop>
+    requires { IsWhole unit.now }
+{
+    let entries = outward_of(alloc, unit, functions)?;
+    let assembled = code_with(alloc, unit, target_of(target), &entries)?;
+    make_all(
+        alloc,
+        unit,
+        &assembled.code,
+        functions,
+        convention_of(target),
+        calls,
+    )
 }
 
 // Whether all calls of the lines on a text end as they should on a target.
 fn text_ends_so(alloc: Global, target: &str, text: &str, calls: &str) -> Result<bool, Stop> {
-    let unit = unit_of(alloc, text.as_bytes())?;
-    let functions = functions_of(alloc, &unit)?;
-    let entries = outward_of(alloc, &unit, &functions)?;
-    let code = code_with(alloc, &unit, target_of(target), &entries)?;
-    make_all(
-        alloc,
-        &unit,
-        &code,
-        &functions,
-        convention_of(target),
-        calls,
-    )
+    let parsed = unit_of(alloc, text.as_bytes())?;
+    let functions = functions_of(alloc, &parsed.unit)?;
+    unit_ends_so(alloc, target, &parsed.unit, &functions, calls)
 }
 
 // Makes the calls of a block of the table: its name, lines of calls, and the text, which begins with a point.

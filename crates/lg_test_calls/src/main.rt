@@ -19,6 +19,7 @@ mod disturbed;
 mod edges;
 mod entered;
 mod form;
+mod held;
 mod listings;
 mod outcome;
 mod profiles;

@@ -1,8 +1,7 @@
 // Random functions that are called from outside: each is compiled for a target and called some times over one memory, and so is its meaning, which has to return
 // the same words.
 
-ghost use Rattle.std.specs.Prelude.{◌≡◌, ◌<◌, ◌≤◌, length, IfOk};
-ghost use Rattle.lg_base.specs.Layout.{most_code};
+ghost use Rattle.std.specs.Prelude.{◌<◌};
 ghost use Rattle.lg_mean.specs.Machines.{state_of};
 ghost use Rattle.lg_mean.specs.Programs.{IsTableOf};
 ghost use Rattle.lg_meaning.specs.Fits.{Fits};
@@ -10,15 +9,15 @@ ghost use Rattle.lg_node.specs.Shapes.{IsShapeOf};
 ghost use Rattle.lg_tst.specs.Answers.{IsWhole};
 
 use crate::called::{Convention, End, convention_of};
-use crate::disturbed::{ANYTHING, ROOM, args_of, unit_of};
-use crate::entered::{call, code_with, target_of};
+use crate::disturbed::{ROOM, unit_of};
+use crate::entered::{call, code_with, shape_of, target_of};
+use crate::held::{meaning_of, start};
 use lg_asm::Code;
 use lg_base::{OutOfMemory, Stop};
 use lg_cpu::Cpu;
 use lg_io::MemorySink;
-use lg_mean::addresses::plain_addresses;
 use lg_mean::{Portable, RunEnd};
-use lg_node::{Label, Shape, Unit, check};
+use lg_node::{Label, Shape, Unit};
 use lg_tally::{Random, count};
 use std::alloc::Global;
 use std::io;
@@ -43,22 +42,74 @@ fn register(random: &mut Random) -> &'static str {
     REGISTERS[random.below(6)]
 }
 
+// Adds pieces to a text.
+fn push_all(text: &mut String, pieces: &[&str]) -> Result<(), OutOfMemory> {
+    for piece in pieces {
+        text.push_str(piece)?;
+    }
+    Ok(())
+}
+
+// Adds a number and a line feed to a text.
+fn push_number(alloc: Global, text: &mut String, number: u64) -> Result<(), OutOfMemory> {
+    let line = format!(in alloc; "{number}\n")?;
+    text.push_str(&line)?;
+    Ok(())
+}
+
 // Adds a line of a function's body: an operation on registers or with a number, a shift, or a store and a load of a word of the data part.
 fn push_line(alloc: Global, text: &mut String, random: &mut Random) -> Result<(), OutOfMemory> {
     let to = register(random);
     let from = register(random);
     let operation = OPERATIONS[random.below(8)];
-    let line = match random.below(4) {
-        0 => format!(in alloc; "{operation}r {to} {from} {}\n", register(random))?,
-        1 => format!(in alloc; "{operation}i {to} {from} {}\n", random.word())?,
-        2 => format!(in alloc; "rshi {to} {from} {}\n", random.below(64))?,
-        _ => format!(in alloc; "sti word {from} addi {from} {from} 1 ldi {to} word\n")?,
-    };
-    text.push_str(&line)?;
-    Ok(())
+    match random.below(4) {
+        0 => push_all(
+            text,
+            &[operation, "r ", to, " ", from, " ", register(random), "\n"],
+        ),
+        1 => {
+            push_all(text, &[operation, "i ", to, " ", from, " "])?;
+            push_number(alloc, text, random.word())
+        }
+        2 => {
+            push_all(text, &["rshi ", to, " ", from, " "])?;
+            push_number(alloc, text, random.below(64) as u64)
+        }
+        _ => push_all(
+            text,
+            &[
+                "sti word ",
+                from,
+                " addi ",
+                from,
+                " ",
+                from,
+                " 1 ldi ",
+                to,
+                " word\n",
+            ],
+        ),
+    }
 }
 
-// Adds what gives each register a word: an argument, or a number where there is none.
+// Adds what gives a register a word: one of this many arguments, or a number where there is none.
+fn push_word(
+    alloc: Global,
+    text: &mut String,
+    random: &mut Random,
+    register: &str,
+    arguments: usize,
+) -> Result<(), OutOfMemory> {
+    if arguments == 0 {
+        push_all(text, &["movi ", register, " "])?;
+        push_number(alloc, text, random.word())
+    } else {
+        push_all(text, &["getarg ", register, " $a"])?;
+        push_number(alloc, text, random.below(arguments) as u64)
+    }
+}
+
+// Adds what gives each register a word.
 fn push_words(
     alloc: Global,
     text: &mut String,
@@ -66,27 +117,33 @@ fn push_words(
     arguments: usize,
 ) -> Result<(), OutOfMemory> {
     for number in 0..arguments {
-        text.push_str(&format!(in alloc; "arg $a{number}\n")?)?;
+        push_all(text, &["arg $a"])?;
+        push_number(alloc, text, number as u64)?;
     }
     for register in REGISTERS {
-        let line = if arguments == 0 {
-            format!(in alloc; "movi {register} {}\n", random.word())?
-        } else {
-            format!(in alloc; "getarg {register} $a{}\n", random.below(arguments))?
-        };
-        text.push_str(&line)?;
+        push_word(alloc, text, random, register, arguments)?;
     }
     Ok(())
+}
+
+// Adds a function with this many arguments to a text.
+fn push_function(
+    alloc: Global,
+    text: &mut String,
+    random: &mut Random,
+    arguments: usize,
+) -> Result<(), OutOfMemory> {
+    push_words(alloc, text, random, arguments)?;
+    for _line in 0..16 {
+        push_line(alloc, text, random)?;
+    }
+    push_all(text, &["retr ", register(random), "\nepilog\n"])
 }
 
 // Returns the text of a function with this many arguments.
 fn text_of(alloc: Global, random: &mut Random, arguments: usize) -> Result<String, OutOfMemory> {
     let mut text = String::from_str(alloc, ".data 8\nword: .l 1\n.code\nfunction: prolog\n")?;
-    push_words(alloc, &mut text, random, arguments)?;
-    for _line in 0..16 {
-        push_line(alloc, &mut text, random)?;
-    }
-    text.push_str(&format!(in alloc; "retr {}\nepilog\n", register(random))?)?;
+    push_function(alloc, &mut text, random, arguments)?;
     Ok(text)
 }
 
@@ -165,31 +222,18 @@ fn code_agrees(
 ) -> Result<bool, Stop>
     requires shape { IsShapeOf unit.now.nodes shape.now }
     requires whole { IsWhole unit.now }
-    requires code { length code.now.bytes ≤ most_code }
     requires stack { convention.stack < 32 }
     requires result { convention.result < 32 }
 {
-    let labels = plain_addresses(alloc, &unit.nodes)?;
     let address = code
         .labels()
         .as_slice()
         .get(FUNCTION.0 as usize)
         .copied()
         .unwrap_or(0);
-    let args = args_of(alloc, "")?;
-    if labels.len() != unit.nodes.labels() {
-        return Ok(false);
-    }
-    let mut machine = Portable::new(alloc, unit, shape, &labels, &args)?;
-    let mut cpu = Cpu::new(
-        alloc,
-        code.target(),
-        code.bytes(),
-        &unit.image,
-        &args,
-        ANYTHING,
-    )?;
-    let agree = calls_agree(
+    let mut meant = meaning_of(alloc, unit, shape)?;
+    let mut started = start(alloc, code, unit, "")?;
+    Ok(calls_agree(
         alloc,
         random,
         number,
@@ -197,10 +241,9 @@ fn code_agrees(
         shape,
         address,
         convention,
-        &mut machine,
-        &mut cpu,
-    )?;
-    Ok(agree)
+        &mut meant.machine,
+        &mut started.cpu,
+    )?)
 }
 
 // Compiles a unit for a target, and returns whether its function agrees with its meaning.
@@ -213,13 +256,13 @@ fn unit_agrees(
 ) -> Result<bool, Stop>
     requires { IsWhole unit.now }
 {
-    let shape = check(alloc, unit)?;
-    let code = code_with(alloc, unit, target_of(target), &[FUNCTION])?;
+    let checked = shape_of(alloc, unit)?;
+    let assembled = code_with(alloc, unit, target_of(target), &[FUNCTION])?;
     code_agrees(
         alloc,
         unit,
-        &shape,
-        &code,
+        &checked.shape,
+        &assembled.code,
         convention_of(target),
         number,
         random,
@@ -234,8 +277,8 @@ fn text_agrees(
     number: usize,
     random: &mut Random,
 ) -> Result<bool, Stop> {
-    let unit = unit_of(alloc, text.as_bytes())?;
-    unit_agrees(alloc, &unit, target, number, random)
+    let parsed = unit_of(alloc, text.as_bytes())?;
+    unit_agrees(alloc, &parsed.unit, target, number, random)
 }
 
 // Returns whether the next random function agrees with its meaning.
