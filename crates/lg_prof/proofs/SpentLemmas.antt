@@ -1,5 +1,5 @@
 -- One more step of a processor, by its outcome.
-use Rattle.std.proofs.Common.{◌≡◌, ℕ, zero, suc, ◌+◌, ◌-◌, ◌<◌, Bool, true, false, List, [], ◌∷◌, Option, Some, None, inl, inr, refl, sym, ap, ap₂, ◌∙◌, subst, add-one, arith}
+use Rattle.std.proofs.Common.{◌≡◌, ℕ, zero, suc, ◌-◌, ◌<◌, Bool, true, false, List, [], ◌∷◌, Option, Some, None, inl, inr, refl, sym, ap, ap₂, ◌∙◌, subst, add-one, arith}
 use Rattle.std.specs.Prelude.{not, ◌&&◌, ◌==◌, unwrap_or, if◌then◌else◌, nat_le, drop}
 use Rattle.std.proofs.lemmas.Bool.{cases_lt}
 use Rattle.std.proofs.lemmas.Option.{same_Some}
@@ -109,7 +109,7 @@ all_ran start n goes k less =
     ap₂ (λ a b. is_going a && not (is_fault b)) here next
 
 -- where all steps went or ended they are those that are counted
-spent_all : (line_of : ℕ → Option ℕ) (run : ℕ → Run CpuState) (line n : ℕ) → ((k : ℕ) → k < n → has_run run k ≡ true) → steps_at line_of run 0 line n ≡ spent line_of run line n
+pub spent_all : (line_of : ℕ → Option ℕ) (run : ℕ → Run CpuState) (line n : ℕ) → ((k : ℕ) → k < n → has_run run k ≡ true) → steps_at line_of run 0 line n ≡ spent line_of run line n
 spent_all line_of run line zero made = steps_zero line_of run 0 line ∙ sym (counted_zero (has_run run) (λ k. line_after line_of run (suc k)) line)
 spent_all line_of run line (suc n) made =
     let rest = spent_all line_of run line n (λ k less. made k (omega (arith, less))) in
@@ -131,20 +131,20 @@ counted_ran start new most taken taken' count count' answer first h = by answer 
     before = all_ran start h.went goes
 
     here_steps : h.here.steps ≡ h.went
-    here_steps = h.steps ∙ ap (λ n. n + h.went) first
+    here_steps = let same = h.steps in omega (arith, same, first)
 
     by : (a : CpuStep) → EndsWith a h.went most h.here new h.between taken' count count' → (k : ℕ) → k < new.steps → has_run (run_from start) k ≡ true
     by cpu.Went e k less = before k (let same = ap (λ (x : Shown). x.steps) e.1 ∙ here_steps in omega (arith, same, less))
     by (cpu.Ended status) e k less = elim (cases_lt k h.went) [
       | inl earlier ↦ before k earlier
       | inr other ↦
-          let same = ap (λ (x : Shown). x.steps) e.2 ∙ ap (λ a. counted a h.here.steps) (sym e.1) in
+          let same = ap (λ (x : Shown). x.steps) e.1.1 ∙ ap (λ a. counted a h.here.steps) (sym e.1.0) in
           let steps = here_steps in
           let is : h.went ≡ k = omega (arith, same, steps, less, other) in
-          subst (λ j. has_run (run_from start) j ≡ true) is (ended start h.here h.went h.out h.at h.going status e.1)
+          subst (λ j. has_run (run_from start) j ≡ true) is (ended start h.here h.went h.out h.at h.going status e.1.0)
     ]
     by (cpu.Fault kind) e k less =
-        let same = ap (λ (x : Shown). x.steps) e.2 ∙ ap (λ a. counted a h.here.steps) (sym e.1) in
+        let same = ap (λ (x : Shown). x.steps) e.1.1 ∙ ap (λ a. counted a h.here.steps) (sym e.1.0) in
         let steps = here_steps in
         before k (omega (arith, same, steps, less))
-    by cpu.WriteFault e k less = before k (let same = ap (λ (x : Shown). x.steps) e.1 ∙ here_steps in omega (arith, same, less))
+    by cpu.WriteFault e k less = before k (let same = ap (λ (x : Shown). x.steps) e.1.0 ∙ here_steps in omega (arith, same, less))
