@@ -19,8 +19,8 @@ fn line_at(lines: &[u32], pc: u64, before: u32) -> u32
         .unwrap_or(before)
 }
 
-/// Counts a step at a program counter for its line, which is returned: that of the table, and the one before where it has none. Where there are no numbers nothing
-/// is counted.
+/// Counts a step at a program counter for its line, which is returned: that of the table, and the one before where it has none. Where there are no numbers
+/// nothing is counted.
 #[inline(always)]
 pub fn count_step(lines: &[u32], pc: u64, before: u32, counts: &mut [u64]) -> u32
     requires lines { (place line : ℕ) → slice_get lines.now place ≡ Some line → line < length counts.old }

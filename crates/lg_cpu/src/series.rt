@@ -171,8 +171,8 @@ fn execute_code<P: Stepping>(
     }
 }
 
-// How far a run comes with a step that answers so, before which it has taken this many. The step is counted for its line, and is taken back there where it did not
-// go and did not end the run.
+// How far a run comes with a step that answers so, before which it has taken this many. The step is counted for its line, and is taken back there where it
+// did not go and did not end the run.
 fn stopped(answer: CpuStep, steps: u64, line: u32, counts: &mut [u64]) -> Advanced
     requires steps { steps < 2 ^ 64 - 1 }
     requires line { 0 < length counts.old → line < length counts.old }
@@ -213,8 +213,8 @@ pub fn step<P: Stepping, O: Sink>(processor: &mut P, out: &mut O) -> CpuStep
     }
 }
 
-/// Takes steps of a run that has taken this many, until one gives another answer than `Went`, and at most this many more, and adds those that went or ended to the
-/// numbers of their lines, where there are any.
+/// Takes steps of a run that has taken this many, until one gives another answer than `Went`, and at most this many more, and adds those that went or ended
+/// to the numbers of their lines, where there are any.
 pub fn advance<P: Stepping, O: Sink>(
     processor: &mut P,
     steps: u64,
