@@ -25,10 +25,10 @@ CountsSteps nodes meaning n ran ran' = 0 < length ran → (line : ℕ) → slice
 abbrev pub CountsStep : (line : ℕ) → (ran ran' : List ℕ) → Type 0
 CountsStep at ran ran' = 0 < length ran → (line : ℕ) → slice_index_or ran' line 0 ≡ slice_index_or ran line 0 + (if at == line then 1 else 0)
 
--- how many steps were begun where this many of at most so many went: one more, where it were not all
+-- how many steps were begun, of which this many went: one more where fewer went than the most
 abbrev pub begun : (went most : ℕ) → ℕ
 begun went most = if nat_lt went most then went + 1 else went
 
--- the run from a state at which some bytes are written, where a step of a state does this
+-- the run from a state before which these bytes were written, by what the step of each state does
 abbrev pub run_from : (State → Outcome) → State → (bytes : List ℕ) → ℕ → Run
 run_from f s bytes n = iter (run_step f) n (run_at s bytes)

@@ -156,7 +156,7 @@ impl Portable {
         }
     }
 
-    // Takes it back, after which it counts for no line.
+    // Takes back the count of a step that was begun and did not go.
     pub(crate) fn take_back(&self, unit: &Unit, ran: &mut [u64])
         requires here { (state_of self.now.machine).at < length unit.now.nodes.nodes }
         requires lines { 0 < length ran.old → AreBelow unit.now.nodes.nodes (length ran.old) }
@@ -170,8 +170,8 @@ impl Portable {
         }
     }
 
-    // A step of a machine that is not over, by the node with its operands looked up: whether it goes so. It writes nothing, and else nothing changes. The step
-    // is not counted yet.
+    // A step of a machine that is not over, by the node with its operands looked up: whether it goes so. It writes nothing, and else nothing changes. It is not
+    // yet among the steps that went.
     #[inline(always)]
     fn go_resolved(&mut self, unit: &Unit, shape: &Shape) -> bool
         requires made { IsTableOf unit.now.nodes shape.now self.old.labels }
@@ -193,9 +193,9 @@ impl Portable {
         self.machine.step_resolved(node)
     }
 
-    // Takes steps by nodes with their operands looked up until one does not go so, and at most this many: returns how many went. Each that it begins counts for
-    // the line of its node, where steps are counted. It is one loop whatever sink the run writes to, and the one place of a program where such nodes are
-    // stepped.
+    // Takes steps by nodes with their operands looked up until one does not go so, and at most this many: returns how many went. Each step that it begins
+    // counts for the line of its node, also the one that does not go; an empty slice counts nothing. It is one loop whatever sink the run writes to, and the
+    // one place of a program where such nodes are stepped.
     #[inline(never)]
     pub(crate) fn run_resolved(
         &mut self,

@@ -56,8 +56,8 @@ impl Portable {
         self.run_counted(unit, shape, most, &mut [], out)
     }
 
-    /// Steps as `run` does, and counts each of the n steps for the line of its node, in a slice that has a number for each line of a node; none of them can
-    /// reach 2^64. Where the slice is empty, nothing is counted.
+    /// Steps as `run` does, and adds one for each of the n steps to the number of its node's line. The slice has a number for the line of each node, and each
+    /// number and `most` together are below 2^64. Or it is empty, and then nothing is counted.
     pub fn run_counted<O: Sink>(
         &mut self,
         unit: &Unit,

@@ -11,9 +11,9 @@ use lg_node::NodeList;
 use std::alloc::Global;
 use std::marker::Model;
 
-// The numbers of one line.
+/// The numbers of one line.
 #[derive(Clone, Copy)]
-struct Counts {
+pub struct Counts {
     ran: u64,
     spent: u64,
 }
