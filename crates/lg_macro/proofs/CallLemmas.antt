@@ -86,6 +86,9 @@ between_cons at end pieces h inside =
 pub between_end : (at end : ℕ) (pieces : List Piece) → end ≤ at → between at end pieces ≡ []
 between_end at end pieces h = let e : end - at ≡ 0 = omega arith in rw e refl
 
+pub between_rest : (from : ℕ) (pieces : List Piece) → between from (length pieces) pieces ≡ drop from pieces
+between_rest from pieces = take_all (length pieces - from) (drop from pieces) (omega (arith, length-drop from pieces))
+
 pub feeds_more : (line at end : ℕ) (text : List ℕ) (pieces given0 next0 : List Piece) → at < end → end ≤ length pieces → text ≡ (piece_at pieces at).text → next0 ≡ fold (with_feed line) given0 text → with_feeds line next0 (between (at + 1) end pieces) ≡ with_feeds line given0 (between at end pieces)
 unfolding with_feeds
 feeds_more line at end text pieces given0 next0 h inside is e = rw (between_cons at end pieces h inside, e, is) refl

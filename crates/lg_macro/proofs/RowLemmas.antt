@@ -1,6 +1,6 @@
 -- Parts whose ranges follow one another.
 use Rattle.std.proofs.Common.{◌≡◌, ℕ, zero, suc, ◌+◌, ◌-◌, ◌<◌, ◌≤◌, List, [], ◌∷◌, ◌++◌, length, take, drop, get_or, map, set, refl, sym, ap, ap₂, ◌∙◌, arith, sum_by, length-append, length-drop, length-take}
-use Rattle.std.proofs.lemmas.List.{get_or-drop, get_or_default, drop-drop, drop-take, take-take, map-append}
+use Rattle.std.proofs.lemmas.List.{get_or-drop, get_or_default, drop-drop, drop-take, take-take, take-append-drop, length-take-le, map-append}
 use Rattle.std.proofs.lemmas.List.Edits.{map_over_more}
 use Rattle.std.proofs.Math.Seq.{drop-append-add}
 use Rattle.std.proofs.lemmas.List.Sums.{sum_by-cons}
@@ -200,3 +200,14 @@ all_unmoved from [] none = refl
 all_unmoved from (p ∷ parts) none =
     let one : p ≡ moved from 0 p = rw none (unmoved p) in
     ap₂ (λ (q : Part) (qs : List Part). q ∷ qs) one (all_unmoved from parts none)
+
+-- parts up to a place are the same in the bytes up to it
+pub parts_cut : (bytes front : List ℕ) (at : ℕ) (parts : List Part) → AreParts bytes at parts → at ≤ length bytes → front ≡ take at bytes
+    → AreParts front (length front) parts × (map (piece_of front) parts ≡ map (piece_of bytes) parts)
+parts_cut bytes front at parts are inside is =
+    let row = row_of 0 at bytes parts are.0 are.1 in
+    let size : length front ≡ at = ap length is ∙ length-take-le at bytes inside in
+    let lies : All (LiesIn front) parts = row_lies front 0 at parts row (omega (arith, size)) in (
+      (lies, ap (λ (n : ℕ). map (λ (p : Part). p.start) parts ++ n ∷ []) size ∙ are.1),
+      sym (same_pieces front (drop at bytes) parts lies) ∙ ap (λ (t : List ℕ). map (piece_of t) parts) (ap (λ (t : List ℕ). t ++ drop at bytes) is ∙ take-append-drop at bytes),
+    )

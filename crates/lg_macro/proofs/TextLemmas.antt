@@ -1,10 +1,10 @@
 -- The pieces of a text, and its lines.
-use Rattle.std.proofs.Common.{◌≡◌, ℕ, zero, suc, ◌+◌, ◌-◌, ◌<◌, ◌≤◌, max, Bool, true, false, not, ◌&&◌, List, [], ◌∷◌, ◌++◌, length, take, drop, refl, ap, arith, append_assoc, append-nil, length-drop, Some, None}
+use Rattle.std.proofs.Common.{◌≡◌, ℕ, zero, suc, ◌+◌, ◌-◌, ◌<◌, ◌≤◌, max, Bool, true, false, not, ◌&&◌, List, [], ◌∷◌, ◌++◌, length, take, drop, refl, ap, arith, append_assoc, append-nil, length-drop, ◌∙◌, Some, None}
 use Rattle.std.proofs.lemmas.List.{drop_all, drop-drop}
 use Rattle.lg_macro.specs.Pieces.{Piece, piece_at, is_byte, is_feed}
 use Rattle.lg_lex.specs.Bytes.{further}
 use Rattle.lg_macro.specs.Cutting.{front_of}
-use Rattle.lg_macro.specs.Text.{is_margin, is_number, is_comment, feeds_of, text_pieces, line_len, ends_with_slash, marks_line, begins_directive, mark_in}
+use Rattle.lg_macro.specs.Text.{is_margin, is_number, is_comment, feeds_of, text_pieces, pieces_on, line_len, ends_with_slash, marks_line, begins_directive, mark_in}
 use Rattle.lg_macro.specs.declared.pieces.PieceKind.{PieceKind}
 use Rattle.lg_macro.proofs.CallLemmas.{drop_piece, further_more}
 
@@ -31,6 +31,29 @@ pub text_done : (k line at : ℕ) (bytes : List ℕ) (out : List Piece) → leng
 unfolding text_pieces
 text_done zero line at bytes out h = append-nil out
 text_done (suc k) line at bytes out h = rw (drop_all at bytes h) (append-nil out)
+
+-- as many pieces as there are bytes are all
+pub text_fuel : (k j line : ℕ) (bytes : List ℕ) → length bytes ≤ k → length bytes ≤ j → text_pieces k line bytes ≡ text_pieces j line bytes
+unfolding text_pieces
+text_fuel zero zero line bytes hk hj = refl
+text_fuel zero (suc j) line [] hk hj = refl
+text_fuel zero (suc j) line (b ∷ rest) hk hj = absurd (omega (arith, hk))
+text_fuel (suc k) zero line [] hk hj = refl
+text_fuel (suc k) zero line (b ∷ rest) hk hj = absurd (omega (arith, hj))
+text_fuel (suc k) (suc j) line [] hk hj = refl
+text_fuel (suc k) (suc j) line (b ∷ rest) hk hj =
+    let n : ℕ = max 1 (front_of (b ∷ rest)).1 in
+    let size = length-drop n (b ∷ rest) in
+    let some : 1 ≤ n = omega arith in
+    ap (λ (l : List Piece). record { kind = (front_of (b ∷ rest)).0; text = take n (b ∷ rest); line = line; frozen = false } ∷ l)
+    (text_fuel k j (line + feeds_of (take n (b ∷ rest))) (drop n (b ∷ rest)) (omega (arith, size, some, hk)) (omega (arith, size, some, hj)))
+
+-- the first pieces, and those of the bytes after them, are all
+pub front_whole : (k line at first len next : ℕ) (bytes : List ℕ) (out pieces : List Piece) → pieces ≡ out → len ≡ at → next ≡ line → length bytes ≤ at + k → out ++ text_pieces k line (drop at bytes) ≡ pieces_on first bytes
+    → pieces ++ pieces_on next (drop len bytes) ≡ pieces_on first bytes
+front_whole k line at first len next bytes out pieces e1 e2 e3 room h =
+    let size = length-drop at bytes in
+    rw (e1, e2, e3) (ap (λ (l : List Piece). out ++ l) (text_fuel (length (drop at bytes)) k line (drop at bytes) (omega arith) (omega (arith, size, room))) ∙ h)
 
 -- ---- the length of a line
 

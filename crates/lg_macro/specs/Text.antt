@@ -34,6 +34,10 @@ text_pieces (suc k) line [] = []
 text_pieces (suc k) line (b ∷ rest) = let front = front_of (b ∷ rest) in let n = max 1 front.1 in
     record { kind = front.0; text = take n (b ∷ rest); line = line; frozen = false } ∷ text_pieces k (line + feeds_of (take n (b ∷ rest))) (drop n (b ∷ rest))
 
+-- all pieces of bytes that begin on a line
+abbrev pub pieces_on : ℕ → List ℕ → List Piece
+pieces_on line bytes = text_pieces (length bytes) line bytes
+
 -- the bytes of pieces, joined with nothing between
 abbrev pub bytes_of : List Piece → List ℕ
 bytes_of [] = []

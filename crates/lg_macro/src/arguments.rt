@@ -87,8 +87,8 @@ fn push_in(now: &mut Pieces, pieces: &Pieces, at: usize, line: u32) -> Result<()
     }
 }
 
-// Returns the pieces from a place to the last that is no white space, that included.
-fn solid_len(pieces: &Pieces, from: usize) -> usize
+/// Returns how many pieces there are from a place to the last that is no white space, that included.
+pub fn solid_len(pieces: &Pieces, from: usize) -> usize
     requires { from ≤ length pieces.now }
     ensures value { result ≡ solid_len (drop from pieces.now) }
     ensures inside { from + result ≤ length pieces.now }

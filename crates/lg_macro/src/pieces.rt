@@ -286,6 +286,15 @@ impl Pieces {
         Ok(())
     }
 
+    /// Takes the first pieces out. The memory stays.
+    pub fn drop_first(&mut self, n: usize)
+        requires { n ≤ length self.old }
+        ensures { self.new ≡ drop n self.old }
+    {
+        let end = self.len();
+        self.cut_at(n, end);
+    }
+
     /// Keeps those between two places. The memory of the others stays.
     pub(crate) fn cut_at(&mut self, from: usize, end: usize)
         requires order { from ≤ end }

@@ -1,8 +1,9 @@
 // The pieces of a text with their lines, and the lines that are directives.
 
-ghost use Rattle.std.specs.Prelude.{◌≡◌, ◌+◌, ◌-◌, ◌<◌, ◌≤◌, ◌==◌, ◌&&◌, ◌^◌, slice_index, not, true, false, length, drop, IfOk, IfSome};
+ghost use Rattle.std.specs.Prelude.{◌≡◌, ◌+◌, ◌-◌, ◌++◌, ◌<◌, ◌≤◌, ◌==◌, ◌&&◌, ◌^◌, slice_index, not, true, false, length, map, drop, IfOk, IfSome};
+ghost use Rattle.lg_macro.specs.PieceParts.{AreParts, piece_of};
 ghost use Rattle.lg_macro.specs.Pieces.{piece_at, is_feed, is_spaced};
-ghost use Rattle.lg_macro.specs.Text.{is_comment, feeds_of, text_pieces, ends_with_slash, line_len, marks_line, begins_directive, mark_in};
+ghost use Rattle.lg_macro.specs.Text.{is_comment, feeds_of, text_pieces, pieces_on, ends_with_slash, line_len, marks_line, begins_directive, mark_in};
 
 use crate::cutting::front_of;
 use crate::pieces::{Part, PieceKind, Pieces};
@@ -56,6 +57,76 @@ pub fn text_pieces(alloc: Global, text: &[u8]) -> Result<Pieces, OutOfMemory>
     }
     let pieces = Pieces::of(alloc, text, parts)?;
     Ok(pieces)
+}
+
+/// The first pieces of a text, how many bytes they have, and the line after them.
+#[derive(Drop)]
+pub struct Front {
+    pub pieces: Pieces,
+    pub len: usize,
+    pub line: u32,
+}
+
+// Returns the pieces whose parts these are, the first of a text up to a place.
+fn front_with(
+    alloc: Global,
+    text: &[u8],
+    parts: Vec<Part>,
+    at: usize,
+    line: u32,
+) -> Result<Front, OutOfMemory>
+    requires inside { at ≤ length text.now }
+    requires parts { AreParts text.now at parts.items }
+    ensures pieces { IfOk result (λ r. r.pieces ≡ map (piece_of text.now) parts.items) }
+    ensures len { IfOk result (λ r. r.len ≡ at) }
+    ensures line { IfOk result (λ r. r.line ≡ line) }
+{
+    let pieces = Pieces::of(alloc, ahead(text, at), parts)?;
+    Ok(Front {
+        pieces,
+        len: at,
+        line,
+    })
+}
+
+/// Returns the first pieces of a text that begins on a line, at most this many, each with the line of its first byte.
+pub fn first_pieces(
+    alloc: Global,
+    text: &[u8],
+    first: u32,
+    most: usize,
+) -> Result<Front, OutOfMemory>
+    requires fits { first + length text.now < 2 ^ 32 }
+    requires any { 0 < most }
+    ensures pieces { IfOk result (λ r. r.pieces ++ pieces_on r.line (drop r.len text.now) ≡ pieces_on first text.now) }
+    ensures line { IfOk result (λ r. r.line ≤ first + r.len) }
+    ensures inside { IfOk result (λ r. r.len ≤ length text.now) }
+    ensures some { 0 < length text.now → IfOk result (λ r. 0 < r.len) }
+{
+    let mut parts: Vec<Part> = Vec::new(alloc);
+    let end = text.len();
+    let mut at = 0;
+    let mut line: u32 = first;
+    'pieces: while at < end {
+        if parts.len() >= most {
+            let some = front_with(alloc, text, parts, at, line)?;
+            return Ok(some);
+        }
+        let rest = behind(text, at);
+        let (kind, n) = front_of(rest);
+        let piece = ahead(rest, n);
+        parts.push(Part {
+            kind,
+            frozen: false,
+            line,
+            start: at,
+            end: at + n,
+        })?;
+        line = line_after(line, kind, piece);
+        at += n;
+    }
+    let all = front_with(alloc, text, parts, at, line)?;
+    Ok(all)
 }
 
 // Returns whether a piece ends with a backslash.

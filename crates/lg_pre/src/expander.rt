@@ -1,26 +1,30 @@
 // The lines of a text and its directives, and the expansion of a text.
 
-ghost use Rattle.std.specs.Prelude.{◌≡◌, ◌+◌, ◌<◌, ◌≤◌, [], length, drop, codes, IfOk, OnOk};
+ghost use Rattle.std.specs.Prelude.{◌≡◌, ◌+◌, ◌<◌, ◌≤◌, [], length, drop, codes, IfOk, IfSome, OnOk};
 ghost use Rattle.lg_macro.specs.Arguments.{stripped};
 ghost use Rattle.lg_macro.specs.Cutting.{cut};
 ghost use Rattle.lg_macro.specs.Defines.{spliced, written};
 ghost use Rattle.lg_pre.specs.Directive.{directive_of};
-ghost use Rattle.lg_pre.specs.Expanded.{lines_in, defines, undefines, opens_named, opens_if, read, obeyed, obeys, is_as_wanted, gives_lines, feeds_lines, flushes, waits, directed, directs, one_line, ended, finishes, start, table_by, start_table, expanded_in, expanded};
+ghost use Rattle.lg_pre.specs.Expanded.{lines_in, defines, undefines, opens_named, opens_if, read, obeyed, obeys, is_as_wanted, gives_lines, feeds_lines, flushes, waits, directed, directs, one_line, ended, finishes, start, table_by, start_table, expanded};
+ghost use Rattle.lg_pre.specs.Conditions.{skipping};
+ghost use Rattle.lg_pre.specs.Windows.{line_end, rest_of, LeadsTo, ReadsOn};
+ghost use Rattle.lg_macro.specs.Text.{mark_in, pieces_on};
 ghost use Rattle.lg_macro.specs.Macros.{CountsAs, StepsAs, Reads};
 ghost use Rattle.std.specs.Prelude.{Ok};
 ghost use Rattle.lg_macro.specs.Pieces.{piece_at, between};
 ghost use Rattle.lg_pre.specs.PlainTexts.{IsPlain};
-ghost use Rattle.std.specs.Prelude.{true};
+ghost use Rattle.std.specs.Prelude.{true, false};
 
 use crate::conditions::Conditions;
 use crate::directive::{Directive, directive_of};
-use crate::flush::{feed, flush};
+use crate::flush::{feed, flush, flush_front};
 use crate::questions::asks;
 use lg_base::{OutOfMemory, RefusalKind, Stop};
+use lg_lex::bytes::behind;
 use lg_macro::arguments::without_ends;
 use lg_macro::{
-    MOST_HELD, Pieces, PlainText, Spare, Table, Work, line_len, mark_in, one_word, push_cut,
-    refused, spliced, stripped_from, text_pieces, written,
+    MOST_HELD, Pieces, PlainText, Spare, Table, Work, first_pieces, line_len, mark_in, one_word,
+    push_cut, refused, spliced, stripped_from, written,
 };
 use memchr::memchr;
 use memchr::memmem::find;
@@ -230,25 +234,60 @@ impl Expander {
         self.directed(work, text, at, end, text.line(sign), body)
     }
 
-    // Reads the line that begins at a place: the place after it.
+    // Reads a line between two places, by the pieces before its `#`.
     #[tactic(auto, unfolding(crate::specs::Expanded::one_line))]
+    fn line_by(
+        &mut self,
+        work: &mut Work,
+        text: &Pieces,
+        at: usize,
+        mark: Option<usize>,
+        end: usize,
+    ) -> Result<usize, Stop>
+        requires mark { mark ≡ mark_in true (drop at text.now) }
+        requires end { end ≡ line_end text.now at mark }
+        requires order { at < end }
+        requires sign { IfSome mark (λ n. at + n < end) }
+        requires inside { end ≤ length text.now }
+        ensures line { StepsAs result self.new (one_line text.now self.old at) }
+        ensures end { IfOk result (λ n. n ≡ end) }
+    {
+        match mark {
+            None => {
+                self.lines.append_between(text, at, end)?;
+                Ok(end)
+            }
+            Some(n) => self.direct(work, text, at, at + n, end),
+        }
+    }
+
+    // Reads the line that begins at a place: the place after it.
     fn one_line(&mut self, work: &mut Work, text: &Pieces, at: usize) -> Result<usize, Stop>
         requires { at < length text.now }
         ensures line { StepsAs result self.new (one_line text.now self.old at) }
         ensures inside { IfOk result (λ n. (at < n) × (n ≤ length text.now)) }
     {
-        let _end = text.len();
-        match mark_in(text, at) {
-            None => {
-                let end = at + line_len(text, at, false);
-                self.lines.append_between(text, at, end)?;
-                Ok(end)
+        let mark = mark_in(text, at);
+        let end = line_end(text, at, mark);
+        self.line_by(work, text, at, mark, end)
+    }
+
+    // Reads the lines that end before the last piece: the place after them.
+    fn read_front(&mut self, work: &mut Work, text: &Pieces) -> Result<usize, Stop>
+        ensures reads { ReadsOn result text.now self.old self.new }
+        ensures inside { IfOk result (λ n. n ≤ length text.now) }
+    {
+        let end = text.len();
+        let mut at = 0;
+        'lines: while at < end {
+            let mark = mark_in(text, at);
+            let next = line_end(text, at, mark);
+            if next >= end {
+                return Ok(at);
             }
-            Some(n) => {
-                let end = at + n + line_len(text, at + n, true);
-                self.direct(work, text, at, at + n, end)
-            }
+            at = self.line_by(work, text, at, mark, next)?;
         }
+        Ok(at)
     }
 
     // Gives what is left at the end of a text.
@@ -263,9 +302,74 @@ impl Expander {
         }
     }
 
-    // Reads all lines of a text, and gives what they expand to.
-    fn read_lines(&mut self, alloc: Global, text: &Pieces) -> Result<(), Stop>
+    // Reads the lines of pieces, and gives what they expand to.
+    fn read_lines(&mut self, work: &mut Work, text: &Pieces) -> Result<(), Stop>
         ensures { CountsAs result self.new.given (lines_in (length text.now) text.now self.old 0) }
+    {
+        let end = text.len();
+        let mut at = 0;
+        'lines: while at < end {
+            let next = self.one_line(work, text, at)?;
+            at = next;
+        }
+        self.finish(work)
+    }
+
+    // Gives of the lines that wait, in a group that is chosen, what no line after them can change.
+    fn give_front(&mut self, work: &mut Work) -> Result<(), Stop>
+        requires { skipping self.old.conditions ≡ false }
+        ensures { LeadsTo result [] self.old [] self.new }
+    {
+        work.hidden.clear();
+        work.sum = self.sum;
+        work.room = MOST_HELD;
+        let n = flush_front(&self.table, work, &self.lines, &mut self.given)?;
+        self.sum = work.sum;
+        self.lines.drop_first(n);
+        Ok(())
+    }
+
+    // Gives of the lines that wait what no line after them can change.
+    fn give_early(&mut self, work: &mut Work) -> Result<(), Stop>
+        ensures { LeadsTo result [] self.old [] self.new }
+    {
+        if self.conditions.is_skipping() {
+            self.feed_lines(work.alloc)
+        } else {
+            self.give_front(work)
+        }
+    }
+
+    // Gives early where more pieces wait than there is room for: the room from then on.
+    fn give_where_full(&mut self, work: &mut Work, room: usize) -> Result<usize, Stop>
+        ensures { LeadsTo result [] self.old [] self.new }
+    {
+        if self.lines.len() < room {
+            return Ok(room);
+        }
+        self.give_early(work)?;
+        let left = self.lines.len();
+        Ok(left.saturating_add(left).saturating_add(PART))
+    }
+
+    // Reads the lines of a part of a text that are whole, and takes them out of it: the room for lines that wait.
+    fn read_part(
+        &mut self,
+        work: &mut Work,
+        pieces: &mut Pieces,
+        room: usize,
+    ) -> Result<usize, Stop>
+        ensures { LeadsTo result pieces.old self.old pieces.new self.new }
+    {
+        let n = self.read_front(work, pieces)?;
+        pieces.drop_first(n);
+        self.give_where_full(work, room)
+    }
+
+    // Reads all lines of a text, part after part, and gives what they expand to.
+    fn read_text(&mut self, alloc: Global, text: &[u8]) -> Result<(), Stop>
+        requires { length text.now ≤ 16777216 }
+        ensures { CountsAs result self.new.given (rest_of (pieces_on 1 text.now) self.old) }
     {
         let end = text.len();
         let mut work = Work {
@@ -275,12 +379,38 @@ impl Expander {
             room: MOST_HELD,
             spare: Spare::new(alloc),
         };
+        let mut pieces = Pieces::new(alloc);
         let mut at = 0;
-        'lines: while at < end {
-            let next = self.one_line(&mut work, text, at)?;
-            at = next;
+        let mut line: u32 = 1;
+        let mut room = PART;
+        'parts: while at < end {
+            let most = pieces.len().saturating_add(PART);
+            let front = first_pieces(alloc, behind(text, at), line, most)?;
+            pieces.append(&front.pieces)?;
+            room = self.read_part(&mut work, &mut pieces, room)?;
+            line = front.line;
+            at += front.len;
         }
-        self.finish(&mut work)
+        self.read_lines(&mut work, &pieces)
+    }
+}
+
+// How many pieces of a text are cut at once, where none are left of those before.
+const PART: usize = 4096;
+
+// Returns the place after a line that begins at a place, by the pieces before its `#`.
+fn line_end(text: &Pieces, at: usize, mark: Option<usize>) -> usize
+    requires begins { at < length text.now }
+    requires sign { IfSome mark (λ n. at + n < length text.now) }
+    ensures value { result ≡ line_end text.now at mark }
+    ensures after { at < result }
+    ensures sign { IfSome mark (λ n. at + n < result) }
+    ensures inside { result ≤ length text.now }
+{
+    let _len = text.len();
+    match mark {
+        None => at + line_len(text, at, false),
+        Some(n) => at + n + line_len(text, at + n, true),
     }
 }
 
@@ -351,12 +481,14 @@ fn start(alloc: Global) -> Result<Expander, OutOfMemory>
     })
 }
 
-// Returns the expansion of the pieces of a text.
-fn expand_pieces(alloc: Global, text: &Pieces) -> Result<PlainText, Stop>
-    ensures { Reads result (expanded_in text.now) }
+// Returns the expansion of a text, whose lines are read.
+#[tactic(auto, unfolding(crate::specs::Expanded::expanded))]
+fn expand_lines(alloc: Global, text: &[u8]) -> Result<PlainText, Stop>
+    requires { length text.now ≤ 16777216 }
+    ensures { Reads result (expanded text.now) }
 {
     let mut expander = start(alloc)?;
-    expander.read_lines(alloc, text)?;
+    expander.read_text(alloc, text)?;
     Ok(expander.given)
 }
 
@@ -378,7 +510,6 @@ fn stay(alloc: Global, text: &[u8]) -> Result<PlainText, Stop>
 }
 
 /// Returns the expansion of a text of at most 16,777,216 bytes, or its first fault, `BadDirective`, `BadMacro` or `ExpandTooMuch`, with its line.
-#[tactic(auto, unfolding(crate::specs::Expanded::expanded))]
 pub fn expand(alloc: Global, text: &[u8]) -> Result<PlainText, Stop>
     requires { length text.now ≤ 16777216 }
     ensures { Reads result (expanded text.now) }
@@ -386,6 +517,5 @@ pub fn expand(alloc: Global, text: &[u8]) -> Result<PlainText, Stop>
     if is_plain(text) {
         return stay(alloc, text);
     }
-    let pieces = text_pieces(alloc, text)?;
-    expand_pieces(alloc, &pieces)
+    expand_lines(alloc, text)
 }
