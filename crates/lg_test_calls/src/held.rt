@@ -1,7 +1,7 @@
 // Values that hold much, each of which is dropped by one call. What is dropped part by part is proved part by part, in every function that owns it and for each
 // way out of it, which costs up to a minute a function.
 
-ghost use Rattle.std.specs.Prelude.{◌≤◌, length, IfOk};
+ghost use Rattle.std.specs.Prelude.{IfOk};
 ghost use Rattle.lg_mean.specs.Machines.{state_of};
 ghost use Rattle.lg_mean.specs.Programs.{IsTableOf};
 ghost use Rattle.lg_meaning.specs.Fits.{Fits};
