@@ -396,7 +396,7 @@ impl Expander {
 }
 
 // How many pieces of a text are cut at once, where none are left of those before.
-const PART: usize = 4096;
+const PART: usize = 1024;
 
 // Returns the place after a line that begins at a place, by the pieces before its `#`.
 fn line_end(text: &Pieces, at: usize, mark: Option<usize>) -> usize
