@@ -5,18 +5,13 @@ ghost use Rattle.lg_cpu.specs.LineCounts.{table_line};
 
 use lg_base::layout::CODE_BASE;
 
-// Returns the line of a program counter, and the one before where it has none.
+// Returns the line of a program counter, and the one before where it has none. Below the code the difference wraps, and is greater than any length.
 #[inline(always)]
 fn line_at(lines: &[u32], pc: u64, before: u32) -> u32
     ensures { result ≡ unwrap_or (table_line lines.now pc) before }
 {
-    if pc < CODE_BASE {
-        return before;
-    }
-    lines
-        .get((pc - CODE_BASE) as usize)
-        .copied()
-        .unwrap_or(before)
+    let place = pc.wrapping_sub(CODE_BASE);
+    lines.get(place as usize).copied().unwrap_or(before)
 }
 
 /// Counts a step at a program counter for its line, which is returned: that of the table, and the one before where it has none. Where there are no numbers
