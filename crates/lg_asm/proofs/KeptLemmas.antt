@@ -21,7 +21,7 @@ use Rattle.lg_cpu.specs.RvStep as rv
 use Rattle.lg_cpu.specs.X86Step as x86
 use Rattle.lg_carry.specs.Endings.{HostsKeep, IsUnwritten}
 use Rattle.lg_carry.specs.Outside.{is_outside}
-use Rattle.lg_sel.specs.Targets.{processor_of}
+use Rattle.lg_asm.specs.Targets.{processor_of}
 
 -- ---- a host function's step
 kept-no-result : (target : Target) → is_kept target (result_register target) ≡ true → ⊥

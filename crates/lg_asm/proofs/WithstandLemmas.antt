@@ -31,7 +31,7 @@ use Rattle.lg_carry.proofs.HoldingLemmas.{carried-withstand}
 use Rattle.lg_carry.proofs.TextShapeLemmas.{shaped}
 use Rattle.lg_carry.proofs.UndisturbedLemmas.{disturbed-is-machine, withstands-carries}
 use Rattle.lg_opt.proofs.RewrittenLemmas.{rewritten-agrees}
-use Rattle.lg_sel.specs.Targets.{processor_of}
+use Rattle.lg_asm.specs.Targets.{processor_of}
 use Rattle.lg_selr_values.proofs.OfProcessor.TouchLemmas as riscv64
 use Rattle.lg_sela_values.proofs.OfProcessor.TouchLemmas as aarch64
 use Rattle.lg_selx_values.proofs.OfProcessor.TouchLemmas as x86_64

@@ -14,7 +14,7 @@ use Rattle.lg_carry.specs.Agreement.{Agrees}
 use Rattle.lg_carry.specs.Entries.{entry_at}
 use Rattle.lg_carry.specs.FinalNodes.{Code}
 use Rattle.lg_carry.specs.Stands.{Stands}
-use Rattle.lg_sel.specs.Targets.{processor_of}
+use Rattle.lg_asm.specs.Targets.{processor_of}
 use Rattle.lg_cpu.specs.Laws.{AreBytes}
 use Rattle.lg_cpu.specs.Targets.{run_from, start_of}
 use Rattle.lg_live.specs.Liveness.{LiveSets, AreLive}

@@ -24,7 +24,7 @@ use Rattle.lg_meaning.specs.States.{Frame, State}
 use Rattle.lg_meaning.specs.Steps.{Left, Exited}
 use Rattle.lg_node.specs.Shapes.{TextShape, IsShapeOf}
 use Rattle.lg_node.specs.declared.unit.Unit.{Unit as TextUnit}
-use Rattle.lg_sel.specs.Targets.{processor_of}
+use Rattle.lg_asm.specs.Targets.{processor_of}
 use Rattle.lg_temp.specs.Agrees.{AgreesAt}
 use Rattle.lg_temp.specs.Paces.{KeepsPace, EndsAlike}
 use Rattle.lg_asm.specs.Assembled.{Assembled, IsCode, ComesFrom, MayStart}

@@ -22,22 +22,8 @@ use Rattle.lg_list.proofs.BackLemmas.{front-again}
 
 digit-again : (d : ℕ) → d < 16 → digit_value (digit_glyph false d) ≡ Some d
 digit-again zero lt = refl
-digit-again (suc zero) lt = refl
-digit-again (suc (suc zero)) lt = refl
-digit-again (suc (suc (suc zero))) lt = refl
-digit-again (suc (suc (suc (suc zero)))) lt = refl
-digit-again (suc (suc (suc (suc (suc zero))))) lt = refl
-digit-again (suc (suc (suc (suc (suc (suc zero)))))) lt = refl
-digit-again (suc (suc (suc (suc (suc (suc (suc zero))))))) lt = refl
-digit-again (suc (suc (suc (suc (suc (suc (suc (suc zero)))))))) lt = refl
-digit-again (suc (suc (suc (suc (suc (suc (suc (suc (suc zero))))))))) lt = refl
-digit-again (suc (suc (suc (suc (suc (suc (suc (suc (suc (suc zero)))))))))) lt = refl
-digit-again (suc (suc (suc (suc (suc (suc (suc (suc (suc (suc (suc zero))))))))))) lt = refl
-digit-again (suc (suc (suc (suc (suc (suc (suc (suc (suc (suc (suc (suc zero)))))))))))) lt = refl
-digit-again (suc (suc (suc (suc (suc (suc (suc (suc (suc (suc (suc (suc (suc zero))))))))))))) lt = refl
-digit-again (suc (suc (suc (suc (suc (suc (suc (suc (suc (suc (suc (suc (suc (suc zero)))))))))))))) lt = refl
-digit-again (suc (suc (suc (suc (suc (suc (suc (suc (suc (suc (suc (suc (suc (suc (suc zero))))))))))))))) lt = refl
 digit-again (suc (suc (suc (suc (suc (suc (suc (suc (suc (suc (suc (suc (suc (suc (suc (suc d)))))))))))))))) lt = absurd (omega arith)
+digit-again (suc _) lt = refl
 
 byte-again : (b : ℕ) → b < 256 → byte_value (digit_glyph false (b / 16)) (digit_glyph false (b % 16)) ≡ Some b
 byte-again b lt =

@@ -26,8 +26,7 @@ use Rattle.lg_back.proofs.InstructionLemmas.{code-unique, starts-again, starts-f
 
 target_word-free : (t : Target) → is_free 32 (target_word t) ≡ true
 target_word-free target.X86_64 = refl
-target_word-free target.Aarch64 = refl
-target_word-free target.Riscv64 = refl
+target_word-free _ = refl
 
 letters : (a b : ℕ) → a ≡ b → a ≢ b → ⊥
 letters a b e other = other e

@@ -2,6 +2,7 @@ pub mod ArgumentLemmas
 pub mod CountLemmas
 pub mod FieldLemmas
 pub mod HeldLemmas
+pub mod HostLemmas
 pub mod NumberLemmas
 pub mod PartLemmas
 pub mod SpaceLemmas

@@ -7,14 +7,12 @@ ghost use Rattle.lg_base.specs.Parts.{args_base};
 ghost use Rattle.lg_base.specs.Lengths.{args_len};
 
 use crate::image::ArgImage;
+use crate::layout::ARGS_BASE;
 use crate::refusal::{OutOfMemory, Refusal, RefusalKind, Stop};
 use std::alloc::Global;
 
 // The largest argument part, in bytes.
 const MOST_ARGS: u64 = 0x10_0000;
-
-// The first address of the argument part.
-const ARGS: u64 = 0x2800_0000;
 
 // Returns whether the argument part of these words has at most the largest size.
 fn fits(words: &Vec<String>) -> bool
@@ -38,7 +36,7 @@ fn push_pointers(bytes: &mut Vec<u8>, words: &Vec<String>) -> Result<(), OutOfMe
     requires { args_len (texts_of words.now.items) ≤ most_args }
     ensures { OnOk result (bytes.new.items ≡ bytes.old.items ++ first_words (texts_of words.now.items)) }
 {
-    let mut address = ARGS + 8 * (words.len() as u64 + 1);
+    let mut address = ARGS_BASE + 8 * (words.len() as u64 + 1);
     for word in words {
         bytes.extend_from_slice(&address.to_le_bytes())?;
         address += word.as_bytes().len() as u64 + 1;

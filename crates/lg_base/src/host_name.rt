@@ -105,21 +105,9 @@ impl HostName {
     pub fn from_address(address: u64) -> Option<HostName>
         ensures { result ≡ host_by_address address }
     {
-        match address {
-            0x0ff0_0000 => Some(HostName::Printf),
-            0x0ff0_0010 => Some(HostName::Puts),
-            0x0ff0_0020 => Some(HostName::Putchar),
-            0x0ff0_0030 => Some(HostName::Exit),
-            0x0ff0_0040 => Some(HostName::Abort),
-            0x0ff0_0050 => Some(HostName::Atoi),
-            0x0ff0_0060 => Some(HostName::Malloc),
-            0x0ff0_0070 => Some(HostName::Calloc),
-            0x0ff0_0080 => Some(HostName::Free),
-            0x0ff0_0090 => Some(HostName::Memcpy),
-            0x0ff0_00a0 => Some(HostName::Memset),
-            0x0ff0_00b0 => Some(HostName::Strlen),
-            0x0ff0_00c0 => Some(HostName::Strcmp),
-            _ => None,
-        }
+        HOST_NAMES
+            .iter()
+            .copied()
+            .find(|name| address == name.address())
     }
 }

@@ -9,21 +9,11 @@ mod stack;
 
 use self::heap::Heap;
 use self::stack::Stack;
-use crate::layout::DATA_BASE;
+use crate::layout::{ARGS_BASE, DATA_BASE, HEAP_BASE, HEAP_SIZE, STACK_BASE, STACK_SIZE};
 use crate::refusal::OutOfMemory;
 use crate::space::Space;
 use std::alloc::Global;
 use std::marker::Model;
-
-const ARGS: u64 = 0x2800_0000;
-
-const HEAP: u64 = 0x3000_0000;
-
-const STACK: u64 = 0x3FF0_0000;
-
-const HEAP_SIZE: u64 = 0x40_0000;
-
-const STACK_SIZE: u64 = 0x10_0000;
 
 /// The memory of a run: the data part, the argument part, 4 MiB of heap and 1 MiB of stack, at the
 /// addresses 0x20000000, 0x28000000, 0x30000000 and 0x3FF00000. Heap and stack hold only what was stored there.
@@ -278,14 +268,14 @@ impl Memory {
         if lies_in(&self.data, DATA_BASE, address, width) {
             return Some(number_in(&self.data, (address - DATA_BASE) as usize, width));
         }
-        if lies_in_fixed(STACK_SIZE, STACK, address, width) {
-            return Some(self.stack.load((address - STACK) as usize, width));
+        if lies_in_fixed(STACK_SIZE, STACK_BASE, address, width) {
+            return Some(self.stack.load((address - STACK_BASE) as usize, width));
         }
-        if lies_in_fixed(HEAP_SIZE, HEAP, address, width) {
-            return Some(self.heap.load((address - HEAP) as usize, width));
+        if lies_in_fixed(HEAP_SIZE, HEAP_BASE, address, width) {
+            return Some(self.heap.load((address - HEAP_BASE) as usize, width));
         }
-        if lies_in(&self.args, ARGS, address, width) {
-            return Some(number_in(&self.args, (address - ARGS) as usize, width));
+        if lies_in(&self.args, ARGS_BASE, address, width) {
+            return Some(number_in(&self.args, (address - ARGS_BASE) as usize, width));
         }
         None
     }
@@ -304,16 +294,18 @@ impl Memory {
             write_number(&mut self.data, (address - DATA_BASE) as usize, width, value);
             return true;
         }
-        if lies_in_fixed(STACK_SIZE, STACK, address, width) {
-            self.stack.store((address - STACK) as usize, width, value);
+        if lies_in_fixed(STACK_SIZE, STACK_BASE, address, width) {
+            self.stack
+                .store((address - STACK_BASE) as usize, width, value);
             return true;
         }
-        if lies_in_fixed(HEAP_SIZE, HEAP, address, width) {
-            self.heap.store((address - HEAP) as usize, width, value);
+        if lies_in_fixed(HEAP_SIZE, HEAP_BASE, address, width) {
+            self.heap
+                .store((address - HEAP_BASE) as usize, width, value);
             return true;
         }
-        if lies_in(&self.args, ARGS, address, width) {
-            write_number(&mut self.args, (address - ARGS) as usize, width, value);
+        if lies_in(&self.args, ARGS_BASE, address, width) {
+            write_number(&mut self.args, (address - ARGS_BASE) as usize, width, value);
             return true;
         }
         false
@@ -332,14 +324,14 @@ impl Space for Memory {
         if address >= DATA_BASE && address - DATA_BASE < self.data.len() as u64 {
             return Some(self.data[(address - DATA_BASE) as usize]);
         }
-        if address >= ARGS && address - ARGS < self.args.len() as u64 {
-            return Some(self.args[(address - ARGS) as usize]);
+        if address >= ARGS_BASE && address - ARGS_BASE < self.args.len() as u64 {
+            return Some(self.args[(address - ARGS_BASE) as usize]);
         }
-        if address >= HEAP && address - HEAP < HEAP_SIZE {
-            return Some(self.heap.get((address - HEAP) as usize));
+        if address >= HEAP_BASE && address - HEAP_BASE < HEAP_SIZE {
+            return Some(self.heap.get((address - HEAP_BASE) as usize));
         }
-        if address >= STACK && address - STACK < STACK_SIZE {
-            return Some(self.stack.get((address - STACK) as usize));
+        if address >= STACK_BASE && address - STACK_BASE < STACK_SIZE {
+            return Some(self.stack.get((address - STACK_BASE) as usize));
         }
         None
     }
@@ -348,10 +340,10 @@ impl Space for Memory {
         if let Some(bytes) = range_of(&self.data, DATA_BASE, address, len) {
             return Some(bytes);
         }
-        if let Some(bytes) = range_of(&self.args, ARGS, address, len) {
+        if let Some(bytes) = range_of(&self.args, ARGS_BASE, address, len) {
             return Some(bytes);
         }
-        range_of(self.heap.held(), HEAP, address, len)
+        range_of(self.heap.held(), HEAP_BASE, address, len)
     }
 
     fn can_put(&self, address: u64) -> bool {

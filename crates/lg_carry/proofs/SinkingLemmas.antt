@@ -78,13 +78,6 @@ over-on true x y e = refl
 over-on false x y e = cc
 
 module _ {Q : Type 0} (P : Processor Q) where
-  weaker : (h : ℕ → Bool) (q r : Q) → AreSame P none q r → AreSame P h q r
-  weaker h q r x = record {
-    status = x.status;
-    out = x.out;
-    look = record { pc = x.look.pc; registers = x.look.registers; bytes = λ a e. x.look.bytes a refl; mark = x.look.mark; flags = x.look.flags };
-  }
-
   -- what is asked of what is seen, it keeps
   same-seen : (q r : Q) → AreSame P none q r → IsSeen (P.seen q) → IsSeen (P.seen r)
   same-seen q r x s =

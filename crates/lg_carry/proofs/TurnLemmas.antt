@@ -6,7 +6,7 @@ use Rattle.std.proofs.lemmas.Bool.{cases_lt}
 use Rattle.lg_base.specs.Conventions.{stack_register}
 use Rattle.lg_base.specs.Runs.{iter}
 use Rattle.lg_base.specs.declared.target.Target.{Target}
-use Rattle.lg_base.specs.declared.target.Target.TheVariants.{X86_64, Aarch64, Riscv64}
+use Rattle.lg_base.specs.declared.target.Target.TheVariants.{X86_64}
 use Rattle.lg_op.specs.declared.node.Node.{Node}
 use Rattle.lg_op.specs.declared.op.ControlOp.TheVariants as control
 use Rattle.lg_op.specs.declared.op.Op.{Op}
@@ -140,8 +140,7 @@ rises-last P m q r u h here there le j lt = ⊎_elim
 
 stack-outside : (target : Target) → is_outside target false (stack_register target) ≡ true
 stack-outside X86_64 = refl
-stack-outside Aarch64 = refl
-stack-outside Riscv64 = refl
+stack-outside _ = refl
 
 -- a step that changes no register that is outside, where the stack pointer is one, keeps it
 pub keeps-stack : {Q : Type 0} (P : Processor Q) (q : Q) → KeepsOutside P false q → stack_of P.target (P.seen (P.machine.step q)) ≡ stack_of P.target (P.seen q)

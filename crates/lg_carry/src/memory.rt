@@ -1,4 +1,3 @@
 // When code of any target carries a node that reads or writes memory, or passes or reads an argument; and the operands of such nodes.
 
-pub mod laws;
 pub mod operands;

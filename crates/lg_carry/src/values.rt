@@ -1,7 +1,6 @@
 // When code that only computes carries the nodes that compute values, on any target.
 
 mod extensions;
-pub mod laws;
 mod parts;
 
 pub use extensions::extension;

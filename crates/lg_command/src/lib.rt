@@ -6,7 +6,9 @@ mod command;
 mod getters;
 pub mod laws;
 mod matches;
+mod plan;
 mod words;
 
 pub use command::{Command, Mode, WordsStop};
+pub use plan::{Action, Plan, Report, Source};
 pub use words::read_words;

@@ -9,7 +9,7 @@ use Rattle.lg_op.specs.declared.op.Op.TheVariants as op
 use Rattle.lg_op.specs.declared.op.PlainOp.TheVariants as plain
 use Rattle.lg_op.specs.declared.operand.Operand.{Operand}
 use Rattle.lg_op.specs.declared.operand.Reg.{Reg}
-use Rattle.lg_op.specs.declared.operand.Reg.TheVariants.{R0, R1, R2, V0, V1, V2, Fp}
+use Rattle.lg_op.specs.declared.operand.Reg.TheVariants.{Fp}
 use Rattle.lg_live.specs.Uses.{is_written}
 use Rattle.lg_op.specs.declared.carry.Carry.{Carry}
 use Rattle.lg_op.specs.declared.carry.Carry.TheVariants as carry
@@ -60,7 +60,7 @@ goes-by-defining (op.Retval v) e = refl
 goes-by-defining (op.Getarg v) e = refl
 goes-by-defining o e = cc
 
-falls-by-defining : (o : Op) → defines o ≡ true → leaps o ≡ false
+pub falls-by-defining : (o : Op) → defines o ≡ true → leaps o ≡ false
 falls-by-defining (op.Binary b last) e = refl
 falls-by-defining (op.Wide b last) e = refl
 falls-by-defining (op.Unary b) e = refl
@@ -126,27 +126,18 @@ module _ (t : Text) (n : Node) (s : State) where
   by-defining o e = cc
 
 word-of-reg : (s u : State) (r : Reg) → reg u r ≡ reg s r → word_of u.regs r ≡ word_of s.regs r
-word-of-reg s u R0 e = e
-word-of-reg s u R1 e = e
-word-of-reg s u R2 e = e
-word-of-reg s u V0 e = e
-word-of-reg s u V1 e = e
-word-of-reg s u V2 e = e
 word-of-reg s u Fp e = refl
+word-of-reg s u _ e = e
 
 -- ---- states by way of one between
 joined : (R S : State → State → Type 0) (x y z : Outcome) → near.Meets R x y → Meets S y z → Meets (λ s m. (u : State) × R s u × S u m) x z
 joined R S (Goes s a) (Goes u b) (Goes m c) h k = ((u, h.0, k.0), k.1 ∙ h.1)
-joined R S (Goes s a) (Goes u b) (Ends d) h k = absurd k
-joined R S (Goes s a) (Goes u b) Undefined h k = absurd k
-joined R S (Goes s a) (Ends d) z h k = absurd h
-joined R S (Goes s a) Undefined z h k = absurd h
-joined R S (Ends c) (Goes u b) z h k = absurd h
+joined R S (Goes s a) (Goes u b) _ h k = absurd k
 joined R S (Ends c) (Ends d) (Goes m b) h k = absurd k
 joined R S (Ends c) (Ends d) (Ends e) h k = k ∙ h
 joined R S (Ends c) (Ends d) Undefined h k = absurd k
-joined R S (Ends c) Undefined z h k = absurd h
 joined R S Undefined y z h k = tt
+joined R S _ _ z h k = absurd h
 
 module _ (l : LabelledNodes) (shape new_shape : TextShape) (stays : ℕ → Bool) (needs : ℕ → Reg → Bool) (A : List ℕ) (is : IsShapeOf l shape) (formed : All InForm l.nodes) (are : AreNeeds l shape stays needs) where
   pub gone-rewrite : IsRewriting l stays no_targets

@@ -245,9 +245,8 @@ module _ (l m : LabelledNodes) (a : IsAccepted l) (to : IsFoldedTo l m) where
   place-same y = ap (λ ps. place_of ps y) to.places
 
   entry-same : (o : Option Place) → is_entry m.nodes o ≡ is_entry l.nodes o
-  entry-same None = refl
-  entry-same (Some (place.Image k)) = refl
   entry-same (Some (place.Node k)) = prolog-same k
+  entry-same _ = refl
 
   -- a run begins at the same node
   pub beginning-same : (b : Option Label) → begins_at m b ≡ begins_at l b
@@ -259,9 +258,8 @@ module _ (l m : LabelledNodes) (a : IsAccepted l) (to : IsFoldedTo l m) where
   begins-same (Some y) e = ap (is_entry m.nodes) (place-same y) ∙ entry-same (place_of l.places y) ∙ e
 
   inside-same : (p : ℕ) (o : Option Place) → is_inside m.nodes p o ≡ is_inside l.nodes p o
-  inside-same p None = refl
-  inside-same p (Some (place.Image k)) = refl
   inside-same p (Some (place.Node k)) = ap (λ h. is_after_prolog h p k) (home-same k)
+  inside-same p _ = refl
 
   astray-same : (h : Option ℕ) (p : Op) (f : Form) (x : Operand) → is_astray m h p f x ≡ is_astray l h p f x
   astray-same None p form.Target (operand.Label y) = ap (λ o. not (is_entry m.nodes o)) (place-same y) ∙ ap not (entry-same (place_of l.places y))
@@ -294,14 +292,8 @@ module _ (l m : LabelledNodes) (a : IsAccepted l) (to : IsFoldedTo l m) where
   target-same : (h : Option ℕ) (o p : Op) (x : Operand) → is_astray l h p form.Target x ≡ is_astray l h o form.Target x
   target-same None o p (operand.Label y) = refl
   target-same (Some q) o p (operand.Label y) = refl
-  target-same None o p (operand.Reg y) = refl
-  target-same (Some q) o p (operand.Reg y) = refl
-  target-same None o p (operand.Number y) = refl
-  target-same (Some q) o p (operand.Number y) = refl
-  target-same None o p (operand.Host y) = refl
-  target-same (Some q) o p (operand.Host y) = refl
-  target-same None o p (operand.Slot y) = refl
-  target-same (Some q) o p (operand.Slot y) = refl
+  target-same None o p _ = refl
+  target-same (Some q) o p _ = refl
 
   abbrev Clear : Option ℕ → Node → Type 0
   Clear h k = (any_by_form (is_astray l h k.op) (forms_of k.op) k.operands ≡ false) × (list_any (is_missing l.places) k.operands ≡ false)

@@ -94,12 +94,7 @@ module _ (l : LabelledNodes) where
 -- six registers are all
 same-fp : (q : Reg) → is_same q Fp ≡ false
 same-fp R0 = refl
-same-fp R1 = refl
-same-fp R2 = refl
-same-fp V0 = refl
-same-fp V1 = refl
-same-fp V2 = refl
-same-fp Fp = refl
+same-fp _ = refl
 
 no-move : (o : Op) (xs : List Operand) → moved_number o xs Fp ≡ None
 no-move (op.Plain plain.Movi) (operand.Reg q ∷ operand.Number v ∷ []) = ap (λ b. if b then Some v else None) (same-fp q)

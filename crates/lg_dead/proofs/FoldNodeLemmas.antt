@@ -1,6 +1,6 @@
 -- Nodes that can be folded, and what they become.
 use Rattle.std.proofs.Common.{◌≡◌, ℕ, ◌<◌, ◌≤◌, ◌⊎◌, inl, inr, ⊎_elim, length, get_or, arith, Bool, true, false, ◌&&◌, ◌||◌, List, [], ◌∷◌, Option, Some, None, refl, sym, ap, ◌∙◌, subst}
-use Rattle.std.specs.Prelude.{if◌then◌else◌, is_some, slice_index_or}
+use Rattle.std.specs.Prelude.{if◌then◌else◌, is_some}
 use Rattle.std.specs.Option.{option_map}
 use Rattle.lg_op.specs.Forms.{forms_of, admit, admits}
 use Rattle.lg_op.specs.Nodes.{InForm}
@@ -17,7 +17,7 @@ use Rattle.lg_op.specs.declared.operand.Operand.{Operand}
 use Rattle.lg_op.specs.declared.operand.Operand.TheVariants as operand
 use Rattle.lg_op.specs.declared.operand.Reg.{Reg}
 use Rattle.lg_op.specs.Operators.{sets_carry, binary_value, unary_value}
-use Rattle.lg_dead.specs.Known.{number_in, both_known, made, last_known, as_movi, as_immediate, folded_by, folded, can_be_folded}
+use Rattle.lg_dead.specs.Known.{number_in, both_known, made, last_known, as_immediate, folded_by, folded, can_be_folded}
 
 module _ (known : Reg → Option ℕ) where
   -- a node of three operands that makes a word
@@ -133,17 +133,6 @@ module _ (known : Reg → Option ℕ) where
   both true c e f = f
   both false c e f = cc
 
-  movi-form : (n : Node) (d : Operand) (v : ℕ) → slice_index_or n.operands 0 (operand.Number 0) ≡ d → admits form.Write d ≡ true → InForm (as_movi n v)
-  movi-form n d v e a = record { forms = ap (λ x. admits form.Write x && (true && true)) e ∙ both (admits form.Write d) (true && true) a refl; apart = tt }
-
-  made-form : (n : Node) (v : ℕ) → InForm n → made known n.op n.operands ≡ Some v → InForm (as_movi n v)
-  made-form n v h e = ⊎_elim
-      (λ (b : BinaryMade n.op n.operands v). movi-form n b.into v (ap (λ xs. slice_index_or xs 0 (operand.Number 0)) b.operands_are)
-      (and-left (admits form.Write b.into) _ (sym (ap (λ o. admit (forms_of o) n.operands) b.op_is ∙ ap (admit (forms_of (op.Binary b.name b.last))) b.operands_are) ∙ h.forms)))
-      (λ (b : UnaryMade n.op n.operands v). movi-form n b.into v (ap (λ xs. slice_index_or xs 0 (operand.Number 0)) b.operands_are)
-      (and-left (admits form.Write b.into) _ (sym (ap (λ o. admit (forms_of o) n.operands) b.op_is ∙ ap (admit (forms_of (op.Unary b.name))) b.operands_are) ∙ h.forms)))
-      (made-cases n.op n.operands v e)
-
   pub last-form-is : (n : Node) (v : ℕ) → InForm n → last_known known n.op n.operands ≡ Some v → InForm (as_immediate n v)
   last-form-is n v h e = ⊎_elim binary branch (last-cases n.op n.operands v e)
     where
@@ -165,19 +154,8 @@ module _ (known : Reg → Option ℕ) where
           (subst (λ xs. InForm (as_immediate (record n { op = op.Branch b.name last_operand.Register; operands = xs }) v)) (sym b.operands_are)
           record { forms = both (admits form.Target b.to) _ first (both (admits form.Read b.first) _ second refl); apart = tt })
 
-  pub folded-form : (n : Node) → InForm n → InForm (folded known n)
-  folded-form n h = by (made known n.op n.operands) (last_known known n.op n.operands) refl refl
-    where
-      by : (p q : Option ℕ) → made known n.op n.operands ≡ p → last_known known n.op n.operands ≡ q → InForm (folded_by n p q)
-      by (Some v) q ep eq = made-form n v h ep
-      by None (Some v) ep eq = last-form-is n v h eq
-      by None None ep eq = h
-
   -- what three operands make
   pub three-made : (b : BinaryOp) (last : LastOperand) (xs : List Operand) (d : Operand) (p q r : Option ℕ) → 3 ≤ length xs → length xs < 4 → p ≡ number_in known (get_or xs 1 d) → q ≡ number_in known (get_or xs 2 d)
       → r ≡ (if sets_carry b then None else both_known p q (binary_value b)) → r ≡ made known (op.Binary b last) xs
   three-made b last (x ∷ y ∷ z ∷ []) d p q r low high ep eq e = e ∙ ap (λ o. if sets_carry b then None else both_known o q (binary_value b)) ep ∙ ap (λ o. if sets_carry b then None else both_known (number_in known y) o (binary_value b)) eq
-  three-made b last [] d p q r low high ep eq e = absurd (omega arith)
-  three-made b last (x ∷ []) d p q r low high ep eq e = absurd (omega arith)
-  three-made b last (x ∷ y ∷ []) d p q r low high ep eq e = absurd (omega arith)
-  three-made b last (x ∷ y ∷ z ∷ w ∷ xs) d p q r low high ep eq e = absurd (omega arith)
+  three-made b last _ d p q r low high ep eq e = absurd (omega arith)

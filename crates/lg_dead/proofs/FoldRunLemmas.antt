@@ -1,5 +1,5 @@
 -- The run of folded nodes.
-use Rattle.std.proofs.Common.{◌≡◌, ◌≢◌, ◌⊎◌, inl, inr, ⊎_elim, ℕ, zero, suc, ◌+◌, Bool, true, false, ◌&&◌, ◌||◌, List, [], ◌∷◌, Option, Some, None, length, refl, sym, ap, ◌∙◌, subst, add-one, arith}
+use Rattle.std.proofs.Common.{◌≡◌, ◌≢◌, ◌⊎◌, inl, inr, ⊎_elim, ℕ, zero, suc, ◌+◌, Bool, true, false, ◌||◌, List, [], ◌∷◌, Option, Some, None, length, refl, sym, ap, ◌∙◌, subst, add-one, arith}
 use Rattle.std.specs.Prelude.{◌-◌, if◌then◌else◌, slice_get}
 use Rattle.std.specs.List.{All}
 use Rattle.std.proofs.lemmas.Bool.Decides.{eqb_tells}
@@ -62,6 +62,7 @@ use Rattle.lg_dead.specs.Known.{number_in, made, last_known, as_movi, as_immedia
 use Rattle.lg_dead.specs.Folds.{IsFoldedTo}
 use Rattle.lg_dead.proofs.FoldAcceptLemmas.{beginning-same, begins-same}
 use Rattle.lg_dead.proofs.FoldNodeLemmas.{BinaryMade, UnaryMade, BinaryLast, BranchLast, made-cases, last-cases, no-more}
+use Rattle.lg_dead.proofs.NearLemmas.{and-left}
 
 -- registers hold the numbers that are known of them
 abbrev pub AreKnown : State → (Reg → Option ℕ) → Type 0
@@ -83,13 +84,8 @@ call-leaps (op.Control control.Finish last) e = refl
 call-leaps o e = cc
 
 reg-by : (s u : State) (r : Reg) → (r ≢ Fp → u.regs (number_of r) ≡ s.regs (number_of r)) → u.frame.sp ≡ s.frame.sp → reg u r ≡ reg s r
-reg-by s u R0 h e = h (λ z. cc)
-reg-by s u R1 h e = h (λ z. cc)
-reg-by s u R2 h e = h (λ z. cc)
-reg-by s u V0 h e = h (λ z. cc)
-reg-by s u V1 h e = h (λ z. cc)
-reg-by s u V2 h e = h (λ z. cc)
 reg-by s u Fp h e = ap (λ p. Some (p - 16)) e
+reg-by s u _ h e = h (λ z. cc)
 
 same-word : (regs : ℕ → Option ℕ) (i v : ℕ) → with_word regs i v i ≡ Some v
 same-word regs i v = ⊎_elim (λ z. ap (λ b. if b then Some v else regs i) z.0) (λ z. absurd (z.1 refl)) (eqb_tells i i)
@@ -104,9 +100,7 @@ Lands k n = n ≡ k
 known-value : (A : List ℕ) (s : State) (known : Reg → Option ℕ) → AreKnown s known → (x : Operand) (v : ℕ) → number_in known x ≡ Some v → value A s x ≡ Some v
 known-value A s known are (operand.Reg r) v e = are r v e
 known-value A s known are (operand.Number k) v e = e
-known-value A s known are (operand.Label k) v e = cc
-known-value A s known are (operand.Host k) v e = cc
-known-value A s known are (operand.Slot k) v e = cc
+known-value A s known are _ v e = cc
 
 module _ (t : Text) (s : State) (known : Reg → Option ℕ) (are : AreKnown s known) where
   -- the step of a node that makes a word
@@ -188,18 +182,11 @@ writes-register (operand.Reg V1) e = (V1, refl, λ z. cc)
 writes-register (operand.Reg V2) e = (V2, refl, λ z. cc)
 writes-register x e = cc
 
-and-left : (b c : Bool) → (b && c) ≡ true → b ≡ true
-and-left true c e = refl
-and-left false c e = cc
-
 first-admitted : (fs : List Form) (x : Operand) (xs : List Operand) → admit (form.Write ∷ fs) (x ∷ xs) ≡ true → admits form.Write x ≡ true
 first-admitted fs x xs e = and-left (admits form.Write x) (admit fs xs) e
 
 nothing : (v : ℕ) → ◌≡◌ {A = Option ℕ} None (Some v) → ⊥
 nothing v e = cc
-
-same-of : (u v : ℕ) → ◌≡◌ {A = Option ℕ} (Some u) (Some v) → u ≡ v
-same-of u v e = cc
 
 -- a register got a number
 wrote : (s : State) (known : Reg → Option ℕ) → AreKnown s known → (q : Reg) (w : ℕ) (bit : Carry) → q ≢ Fp → (r : Reg) (v : ℕ)
@@ -309,9 +296,6 @@ module _ (t : Text) (n : Node) (s u : State) (bytes : List ℕ) (known : Reg →
 
 -- ---- one step
 module _ (t : Text) (n : Node) (s k : State) (known : Reg → Option ℕ) (are : AreKnown s known) (a : Alike stay-put Lands s k) where
-  abbrev R : State → State → Type 0
-  R = Alike stay-put Lands
-
   abbrev there : State
   there = over stay-put s s.at a.bit a.result
 
@@ -320,12 +304,7 @@ module _ (t : Text) (n : Node) (s k : State) (known : Reg → Option ℕ) (are :
 
   reg-over : (r : Reg) → reg there r ≡ reg s r
   reg-over R0 = refl
-  reg-over R1 = refl
-  reg-over R2 = refl
-  reg-over V0 = refl
-  reg-over V1 = refl
-  reg-over V2 = refl
-  reg-over Fp = refl
+  reg-over _ = refl
 
   known-there : AreKnown there known
   known-there r v e = reg-over r ∙ are r v e

@@ -92,7 +92,7 @@ module _ (l : LabelledNodes) (keep : ℕ → Bool) (targets : ℕ → Option Lab
 
 -- ---- nodes can be folded only by what they read
 
-same-itself : (a : Reg) → a ≢ Fp → is_same a a ≡ true
+pub same-itself : (a : Reg) → a ≢ Fp → is_same a a ≡ true
 same-itself R0 e = refl
 same-itself R1 e = refl
 same-itself R2 e = refl

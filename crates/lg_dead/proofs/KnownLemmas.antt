@@ -31,7 +31,7 @@ nothing v e = cc
 no : true ≡ false → ⊥
 no e = cc
 
-or-false : (b : Bool) → (b || false) ≡ b
+pub or-false : (b : Bool) → (b || false) ≡ b
 or-false true = refl
 or-false false = refl
 

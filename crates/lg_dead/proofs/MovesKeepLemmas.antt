@@ -9,8 +9,6 @@ use Rattle.lg_op.specs.declared.form.Form.{Form}
 use Rattle.lg_op.specs.declared.node.Node.{Node}
 use Rattle.lg_op.specs.declared.op.Op.{Op}
 use Rattle.lg_op.specs.declared.op.Op.TheVariants as op
-use Rattle.lg_op.specs.declared.op.ControlOp.TheVariants as control
-use Rattle.lg_op.specs.declared.op.PlainOp.TheVariants as plain
 use Rattle.lg_op.specs.declared.op.UnaryOp.TheVariants as unary
 use Rattle.lg_op.specs.declared.operand.Operand.{Operand}
 use Rattle.lg_op.specs.declared.operand.Operand.TheVariants as operand
@@ -43,6 +41,10 @@ use Rattle.lg_opt.specs.Moves.{is_movr}
 use Rattle.lg_live.specs.Needs.{IsNeeded}
 use Rattle.lg_live.specs.Needs as needed
 use Rattle.lg_dead.proofs.NeededLemmas.{successor-moved, needed-inside, needed-live, next-only}
+use Rattle.lg_dead.proofs.NoFoldLemmas.{Source, source-after, falls-next}
+use Rattle.lg_dead.proofs.FoldRunLemmas.{is-same}
+use Rattle.lg_dead.proofs.KnownKeepLemmas.{same-itself}
+use Rattle.lg_dead.proofs.KnownLemmas.{or-false}
 
 no : true ≡ false → ⊥
 no e = cc
@@ -63,26 +65,6 @@ alone : (r y : Reg) → Linked no_sources r y → r ≡ y
 alone r y (same r1) = refl
 alone r y (up r1 x y1 e z h) = absurd (none-reg x e)
 alone r y (down r1 x y1 e z h) = absurd (none-reg r e)
-
--- what a source after another node says
-record Source (f : Reg → Option Reg) (n : Node) (r x : Reg) : Type 0 where
-  into : is_written n r ≡ false
-  from : is_written n x ≡ false
-  before : f r ≡ Some x
-
-source-after : (f : Reg → Option Reg) (n : Node) (r x : Reg) → after_other f n r ≡ Some x → Source f n r x
-source-after f n r x e = by (is_written n r) (f r) refl refl e
-  where
-    inner : (q : Reg) (b : Bool) → is_written n r ≡ false → f r ≡ Some q → is_written n q ≡ b → (if b then None else Some q) ≡ Some x → Source f n r x
-    inner q true w g h e = absurd (none-reg x e)
-    inner q false w g h e =
-        let z : q ≡ x = some-reg q x e in
-        record { into = w; from = subst (λ y. is_written n y ≡ false) z h; before = g ∙ e }
-
-    by : (b : Bool) (o : Option Reg) → is_written n r ≡ b → f r ≡ o → (if b then None else unless_written n o) ≡ Some x → Source f n r x
-    by true o w g e = absurd (none-reg x e)
-    by false None w g e = absurd (none-reg x e)
-    by false (Some q) w g e = inner q (is_written n q) w g refl e
 
 other-kept : (f : Reg → Option Reg) (n : Node) (r y : Reg) → Linked (after_other f n) r y → is_written n r ≡ false → (is_written n y ≡ false) × Linked f r y
 other-kept f n r y (same r1) w = (w, same r)
@@ -186,29 +168,6 @@ needed-no-fp l s r i (needed.read_for r1 q i1 k n e f w c x) z = no (sym f ∙ a
 needed-no-fp l s r i (needed.kept_to r1 i1 k n e w c x) z = needed-no-fp l s r k x z
 
 -- ---- a `movr`
-is-same : (a b : Reg) → is_same a b ≡ true → a ≡ b
-is-same R0 R0 e = refl
-is-same R1 R1 e = refl
-is-same R2 R2 e = refl
-is-same V0 V0 e = refl
-is-same V1 V1 e = refl
-is-same V2 V2 e = refl
-is-same Fp Fp e = refl
-is-same a b e = cc
-
-same-itself : (a : Reg) → a ≢ Fp → is_same a a ≡ true
-same-itself R0 e = refl
-same-itself R1 e = refl
-same-itself R2 e = refl
-same-itself V0 e = refl
-same-itself V1 e = refl
-same-itself V2 e = refl
-same-itself Fp e = absurd (e refl)
-
-or-false : (b : Bool) → (b || false) ≡ b
-or-false true = refl
-or-false false = refl
-
 module _ (n : Node) (k : Move) (e : move_of n.op n.operands ≡ Some k) where
   there : (n.op ≡ op.Unary unary.Mov) × (n.operands ≡ operand.Reg k.into ∷ operand.Reg k.from ∷ [])
   there = move-is n.op n.operands k e
@@ -229,16 +188,6 @@ other-no-move o xs e = refl
 
 moves-define : (o : Op) (xs : List Operand) (k : Move) → move_of o xs ≡ Some k → defines o ≡ true
 moves-define o xs k e = ap defines (move-is o xs k e).0
-
-falls-next : (o : Op) → leaps o ≡ false → way_of o ≡ Next
-falls-next (op.Branch c last) e = cc
-falls-next (op.BranchSum c last) e = cc
-falls-next (op.Control control.Jmp last) e = cc
-falls-next (op.Control control.Ret last) e = cc
-falls-next (op.Plain plain.Ret) e = cc
-falls-next (op.Plain plain.Epilog) e = cc
-falls-next (op.Control control.Pusharg last) e = refl
-falls-next o e = refl
 
 -- ---- the nodes that stay
 module _ (l : LabelledNodes) (shape new_shape : TextShape) (is : IsShapeOf l shape) (formed : All InForm l.nodes) (et : new_shape.taken ≡ shape.taken) where
@@ -286,11 +235,7 @@ module _ (l : LabelledNodes) (shape new_shape : TextShape) (is : IsShapeOf l sha
 
   target-labelled : (n : Node) (k : ℕ) → (xs : List Operand) → target_of l.places xs ≡ Some (place.Node k) → is_labelled l.places k ≡ true
   target-labelled n k (operand.Label y ∷ xs) e = labelled-at l.places y k e
-  target-labelled n k [] e = cc
-  target-labelled n k (operand.Reg y ∷ xs) e = cc
-  target-labelled n k (operand.Number y ∷ xs) e = cc
-  target-labelled n k (operand.Host y ∷ xs) e = cc
-  target-labelled n k (operand.Slot y ∷ xs) e = cc
+  target-labelled n k _ e = cc
 
   arrives : (i k : ℕ) (n : Node) → slice_get l.nodes i ≡ Some n → IsSuccessor l shape i k → Arrives i k n
   arrives i k n e c = by (leaps n.op) refl

@@ -53,16 +53,7 @@ read-of form.Update q t a = refl
 read-of form.Write q t a = cc
 read-of f q t a = cc
 
-is-itself : (q : Reg) → (q ≡ Fp) ⊎ (is_register q (operand.Reg q) ≡ true)
-is-itself R0 = inr refl
-is-itself R1 = inr refl
-is-itself R2 = inr refl
-is-itself V0 = inr refl
-is-itself V1 = inr refl
-is-itself V2 = inr refl
-is-itself Fp = inl refl
-
-and-left : (b c : Bool) → (b && c) ≡ true → b ≡ true
+pub and-left : (b c : Bool) → (b && c) ≡ true → b ≡ true
 and-left true c e = refl
 and-left false c e = cc
 
@@ -125,22 +116,14 @@ word-written f g (operand.Reg V2) v V2 h = inr refl
 word-written f g d v q h = h refl
 
 word-kept : (f g : ℕ → Option ℕ) (q : Reg) → (is_kept q ≡ true → Holds (word_of f q) (word_of g q)) → Holds (word_of (kept f) q) (word_of (kept g) q)
-word-kept f g R0 h = inl refl
-word-kept f g R1 h = inl refl
-word-kept f g R2 h = inl refl
-word-kept f g Fp h = inl refl
 word-kept f g V0 h = h refl
 word-kept f g V1 h = h refl
 word-kept f g V2 h = h refl
+word-kept f g _ h = inl refl
 
 no-word : (g : ℕ → Option ℕ) (q : Reg) → Holds (word_of (λ r. None) q) (word_of g q)
 no-word g R0 = inl refl
-no-word g R1 = inl refl
-no-word g R2 = inl refl
-no-word g V0 = inl refl
-no-word g V1 = inl refl
-no-word g V2 = inl refl
-no-word g Fp = inl refl
+no-word g _ = inl refl
 
 small : (q : Reg) → is_kept q ≡ true → nat_lt (number_of q) 3 ≡ false
 small V0 e = refl
@@ -148,7 +131,7 @@ small V1 e = refl
 small V2 e = refl
 small q e = cc
 
-and-false : (b : Bool) → (b && false) ≡ false
+pub and-false : (b : Bool) → (b && false) ≡ false
 and-false true = refl
 and-false false = refl
 
@@ -209,10 +192,7 @@ module _ (needs : ℕ → Reg → Bool) (t : Text) (n : Node) (S : Reg → Bool)
 
   value-near : (A : List ℕ) (x : Operand) → ((q : Reg) → x ≡ operand.Reg q → is_register q (operand.Reg q) ≡ true → needs s.at q ≡ true) → Holds (value A s x) (value A m x)
   value-near A (operand.Reg q) h = reg-near q (h q refl)
-  value-near A (operand.Number k) h = inr refl
-  value-near A (operand.Label l) h = inr refl
-  value-near A (operand.Host k) h = inr refl
-  value-near A (operand.Slot k) h = inr refl
+  value-near A _ h = inr refl
 
   open-near : is_open m ≡ is_open s
   open-near = λ i. λ a. at a i
@@ -329,10 +309,8 @@ module _ (needs : ℕ → Reg → Bool) (t : Text) (n : Node) (S : Reg → Bool)
 
       call-operand-near : (args : List ℕ) (x : Operand) → Meets R (call_operand t s args x) (call_operand t m args x)
       call-operand-near args (operand.Host name) = call-host-near args name
-      call-operand-near args (operand.Reg x) = call-node-near args 0
-      call-operand-near args (operand.Number x) = call-node-near args 0
-      call-operand-near args (operand.Slot x) = call-node-near args 0
       call-operand-near args (operand.Label x) = call-node-near args (node_of_label t.places (operand.Label x))
+      call-operand-near args _ = call-node-near args 0
 
       call-named-near : (args : List ℕ) (w : ℕ) (h : Option HostName) → Meets R (call_named t s args w h) (call_named t m args w h)
       call-named-near args w (Some name) = call-host-near args name
@@ -466,9 +444,6 @@ module _ (needs : ℕ → Reg → Bool) (t : Text) (n : Node) (S : Reg → Bool)
         ))
     table (op.Plain plain.Epilog) e k = absurd (cc)
     table (op.Plain plain.Ret) e k = absurd (cc)
-    table (op.Plain plain.Arg) e k = (went (op.Plain plain.Arg) (forms-at _ e) (reads-at _ e) (flow-at _ e) (on s) refl refl refl (λ q. unnamed (forms_of (op.Plain plain.Arg)) n.operands q refl) refl, refl)
-    table (op.Plain plain.Allocai) e k = (went (op.Plain plain.Allocai) (forms-at _ e) (reads-at _ e) (flow-at _ e) (on s) refl refl refl (λ q. unnamed (forms_of (op.Plain plain.Allocai)) n.operands q refl) refl, refl)
-    table (op.Plain plain.Align) e k = (went (op.Plain plain.Align) (forms-at _ e) (reads-at _ e) (flow-at _ e) (on s) refl refl refl (λ q. unnamed (forms_of (op.Plain plain.Align)) n.operands q refl) refl, refl)
     table (op.Plain plain.VaStart) e k =
         let o = op.Plain plain.VaStart in
         held R _ _ (at-input o (forms-at _ e) (reads-at _ e) (flow-at _ e) 1 refl) _ _ (λ v. fell o (forms-at _ e) (reads-at _ e) (flow-at _ e) v (form.ArgumentCount ∷ []) refl refl refl)
@@ -482,6 +457,7 @@ module _ (needs : ℕ → Reg → Bool) (t : Text) (n : Node) (S : Reg → Bool)
     table (op.Plain plain.VaEnd) e k =
         let o = op.Plain plain.VaEnd in
         held R _ _ (at-input o (forms-at _ e) (reads-at _ e) (flow-at _ e) 0 refl) _ _ (λ i. (went o (forms-at _ e) (reads-at _ e) (flow-at _ e) (on s) refl refl refl (λ q. unnamed (forms_of (op.Plain plain.VaEnd)) n.operands q refl) refl, refl))
+    table (op.Plain x) e k = (went (op.Plain x) (forms-at _ e) (reads-at _ e) (flow-at _ e) (on s) refl refl refl (λ q. unnamed (forms_of (op.Plain x)) n.operands q refl) refl, refl)
     table (op.Load v at) e k = by at e
       where
         by : (at : Addressing) → n.op ≡ op.Load v at → Meets R (node_step t n (op.Load v at) s) (node_step t n (op.Load v at) m)

@@ -26,7 +26,7 @@ use Rattle.lg_meaning.proofs.Outcomes.{OnGoes, need_on, on_result}
 use Rattle.lg_meaning.proofs.ReachLemmas.{reaches}
 use Rattle.lg_dead.specs.Near.{Holds, word_of, is_kept, FramesAlike, Near, Meets}
 use Rattle.lg_dead.specs.Needs.{AreNeeds, AreNear, NearStepsMeet}
-use Rattle.lg_dead.proofs.NearLemmas.{others-near, returns-near}
+use Rattle.lg_dead.proofs.NearLemmas.{others-near, returns-near, and-false}
 
 -- a call goes on to the next node
 calls-next : (o : Op) → is_call o ≡ true → way_of o ≡ Next
@@ -51,10 +51,6 @@ not-small V0 e = refl
 not-small V1 e = refl
 not-small V2 e = refl
 not-small r e = cc
-
-and-false : (b : Bool) → (b && false) ≡ false
-and-false true = refl
-and-false false = refl
 
 -- a return goes to the node of return
 returns-back : (t : Text) (n : Node) (s : State) (o : Op) → is_return o ≡ true → OnGoes (λ u. u.at ≡ s.frame.back) (node_step t n o s)
@@ -94,11 +90,9 @@ module _ (needs : ℕ → Reg → Bool) (these : Reg → Bool) where
 
   narrow : (o p : Outcome) → ((u : State) (bytes : List ℕ) → o ≡ Goes u bytes → (r : Reg) → needs u.at r ≡ true → (these r ≡ true) ⊎ (word_of u.regs r ≡ None)) → Meets (Near needs these) o p → Meets (AreNear needs) o p
   narrow (Goes u bytes) (Goes v more) h x = (narrowed u v (h u bytes refl) x.0, x.1)
-  narrow (Goes u bytes) (Ends c) h x = x
-  narrow (Goes u bytes) Undefined h x = x
+  narrow (Goes u bytes) _ h x = x
   narrow (Ends c) (Goes v more) h x = x
-  narrow (Ends c) (Ends d) h x = x
-  narrow (Ends c) Undefined h x = x
+  narrow (Ends c) _ h x = x
   narrow Undefined p h x = tt
 
 module _ (l : LabelledNodes) (shape : TextShape) (stays : ℕ → Bool) (needs : ℕ → Reg → Bool) (A : List ℕ) (n : Node) (is : IsShapeOf l shape) (are : AreNeeds l shape stays needs) (formed : InForm n) where

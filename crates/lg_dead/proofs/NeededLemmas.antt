@@ -23,7 +23,7 @@ use Rattle.lg_opt.proofs.AcceptLemmas.{inside-moved, entry-stays}
 use Rattle.lg_opt.proofs.MovedLemmas.{comes-from, new-count, stands, place-moved}
 use Rattle.lg_opt.proofs.RemainingLemmas.{number-stays, number-goes, number-lt}
 use Rattle.lg_opt.proofs.ShapeLemmas.{home-moved}
-use Rattle.lg_dead.specs.Dead.{AllAreOfUse, HasNoDead, any_needed, stays_at, stays, AreExact}
+use Rattle.lg_dead.specs.Dead.{AllAreOfUse, any_needed, stays_at, stays, AreExact}
 use Rattle.lg_live.specs.Needs.{IsNeeded}
 use Rattle.lg_live.specs.Needs as needed
 use Rattle.lg_dead.proofs.DeadRunLemmas.{next-by-defining}
@@ -81,11 +81,6 @@ pub needed-live : (l : LabelledNodes) (s : TextShape) (r : Reg) (i : ℕ) → Is
 needed-live l s r i (needed.read_here r1 i1 n e f d) = live.read_here i n e f
 needed-live l s r i (needed.read_for r1 q i1 k n e f w c x) = live.read_here i n e f
 needed-live l s r i (needed.kept_to r1 i1 k n e w c x) = live.kept_to i k n e w c (needed-live l s r k x)
-
-pub use-not-dead : (l : LabelledNodes) (s : TextShape) → AllAreOfUse l s → HasNoDead l s
-use-not-dead l s all i n e d =
-    let u = all i n e d in
-    record { register = u.register; written = u.written; live = record { next = u.next; successor = u.successor; live = needed-live l s u.register u.next u.needed } }
 
 -- the one successor of a definition is the next node
 pub next-only : (l : LabelledNodes) (s : TextShape) (i k : ℕ) (n : Node) → slice_get l.nodes i ≡ Some n → defines n.op ≡ true → IsSuccessor l s i k → k ≡ i + 1

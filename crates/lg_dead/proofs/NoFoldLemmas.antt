@@ -24,7 +24,6 @@ use Rattle.lg_carry.specs.Carries.{leaps}
 use Rattle.lg_node.specs.Labels.{is_labelled}
 use Rattle.lg_node.specs.Nodes.{LabelledNodes}
 use Rattle.lg_node.specs.Shapes.{TextShape, IsSuccessor, GoesBy, Way, Next, way_of}
-use Rattle.lg_live.specs.Definitions.{defines}
 use Rattle.lg_dead.specs.Needs.{AreNeeds}
 use Rattle.lg_live.specs.Registers.{is_same}
 use Rattle.lg_node.specs.Checks.{IsAccepted}
@@ -46,10 +45,11 @@ use Rattle.lg_opt.proofs.MovedLemmas.{comes-from, new-count, stands}
 use Rattle.lg_dead.specs.Known.{made, last_known, can_be_folded, moved_number, or_else, known_after, known_before, HasNoFolds}
 use Rattle.lg_dead.proofs.FoldRunLemmas.{is-same}
 use Rattle.lg_dead.proofs.Kept.{DeadKeepsNoFolds, MovesKeepNoFolds, ThreadsKeepNoFolds}
-use Rattle.lg_dead.proofs.KnownLemmas.{no-fp-known, fresh-at, known-step, unwritten-known}
+use Rattle.lg_dead.proofs.KnownLemmas.{no-fp-known, fresh-at, known-step, unwritten-known, or-false}
 use Rattle.lg_dead.proofs.KnownKeepLemmas.{tracked, can-less, label-kept}
+use Rattle.lg_dead.proofs.DeadRunLemmas.{falls-by-defining}
 
-falls-next : (o : Op) → leaps o ≡ false → way_of o ≡ Next
+pub falls-next : (o : Op) → leaps o ≡ false → way_of o ≡ Next
 falls-next (op.Branch c last) e = cc
 falls-next (op.BranchSum c last) e = cc
 falls-next (op.Control control.Jmp last) e = cc
@@ -58,16 +58,6 @@ falls-next (op.Plain plain.Ret) e = cc
 falls-next (op.Plain plain.Epilog) e = cc
 falls-next (op.Control control.Pusharg last) e = refl
 falls-next o e = refl
-
-falls-by-defining : (o : Op) → defines o ≡ true → leaps o ≡ false
-falls-by-defining (op.Binary b last) e = refl
-falls-by-defining (op.Wide b last) e = refl
-falls-by-defining (op.Unary b) e = refl
-falls-by-defining (op.Plain plain.Movi) e = refl
-falls-by-defining (op.Load v at) e = refl
-falls-by-defining (op.Retval v) e = refl
-falls-by-defining (op.Getarg v) e = refl
-falls-by-defining o e = cc
 
 -- ---- definitions that are not needed
 module _ (l : LabelledNodes) (shape : TextShape) (keep : ℕ → Bool) (needs : ℕ → Reg → Bool) (are : AreNeeds l shape keep needs) (formed : All InForm l.nodes) (none : HasNoFolds l) where
@@ -125,17 +115,13 @@ none-reg a e = cc
 some-reg : (a b : Reg) → ◌≡◌ {A = Option Reg} (Some a) (Some b) → a ≡ b
 some-reg a b e = cc
 
-or-false : (b : Bool) → (b || false) ≡ b
-or-false true = refl
-or-false false = refl
-
 -- what a source after another node says
-record Source (f : Reg → Option Reg) (n : Node) (r x : Reg) : Type 0 where
-  into : is_written n r ≡ false
-  from : is_written n x ≡ false
-  before : f r ≡ Some x
+pub record Source (f : Reg → Option Reg) (n : Node) (r x : Reg) : Type 0 where
+  pub into : is_written n r ≡ false
+  pub from : is_written n x ≡ false
+  pub before : f r ≡ Some x
 
-source-after : (f : Reg → Option Reg) (n : Node) (r x : Reg) → after_other f n r ≡ Some x → Source f n r x
+pub source-after : (f : Reg → Option Reg) (n : Node) (r x : Reg) → after_other f n r ≡ Some x → Source f n r x
 source-after f n r x e = by (is_written n r) (f r) refl refl e
   where
     inner : (q : Reg) (b : Bool) → is_written n r ≡ false → f r ≡ Some q → is_written n q ≡ b → (if b then None else Some q) ≡ Some x → Source f n r x
@@ -325,9 +311,6 @@ module _ (l : LabelledNodes) (targets : ℕ → Option Label) (a : IsAccepted l)
           let h = (are.others i n y e t).jumps in
           ap (λ o. is_some o || is_some (last_known known n.op (with_first n.operands y))) (made-none known n.op (with_first n.operands y) h ∙ sym (made-none known n.op n.operands h))
           ∙ ap (λ o. is_some (made known n.op n.operands) || is_some o) (last-same known n.op n.operands y h)
-
-  abbrev keeps : ℕ → Bool
-  keeps = goals.stays l
 
   abbrev All-of : ℕ → Reg → Type 0
   All-of i r = Unit {0}

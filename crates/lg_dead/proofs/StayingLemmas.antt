@@ -1,5 +1,5 @@
 -- The table of the nodes that stay.
-use Rattle.std.proofs.Common.{◌≡◌, ⊎_elim, ℕ, ◌+◌, ◌<◌, ◌≤◌, Bool, true, false, not, ◌&&◌, ◌||◌, List, [], ◌∷◌, ◌++◌, Some, length, refl, sym, ap, ◌∙◌, get_or, arith}
+use Rattle.std.proofs.Common.{◌≡◌, ⊎_elim, ℕ, ◌+◌, ◌<◌, ◌≤◌, Bool, true, false, List, [], ◌∷◌, ◌++◌, Some, length, refl, sym, ap, ◌∙◌, get_or, arith}
 use Rattle.std.specs.Prelude.{slice_get, slice_index_or}
 use Rattle.std.proofs.lemmas.Bool.{cases_lt}
 use Rattle.std.proofs.lemmas.List.{get_or_append_left, get_or_past}
@@ -12,9 +12,6 @@ use Rattle.lg_op.specs.declared.operand.Reg.{Reg}
 use Rattle.lg_op.specs.declared.operand.Reg.TheVariants.{R0, R1, R2, V0, V1, V2, Fp}
 use Rattle.lg_live.specs.RegSets.{has}
 use Rattle.lg_live.specs.declared.reg_set.RegSet.{RegSet}
-use Rattle.lg_live.specs.Uses.{is_written}
-use Rattle.lg_live.specs.Definitions.{defines}
-use Rattle.lg_live.specs.Graphs.{any_register}
 use Rattle.lg_live.specs.Needs.{AreNeeded}
 use Rattle.lg_node.specs.Nodes.{LabelledNodes}
 use Rattle.lg_node.specs.Shapes.{TextShape}
@@ -22,12 +19,6 @@ use Rattle.lg_opt.specs.Rewritings.{marked}
 use Rattle.lg_dead.specs.Dead.{stays_at, stays, needs_in, AreExact}
 use Rattle.lg_dead.specs.Dropping.{AreStays}
 use Rattle.lg_dead.proofs.NeededLemmas.{needed-inside}
-
-any-same : (f g : Reg → Bool) → ((q : Reg) → f q ≡ g q) → any_register f ≡ any_register g
-any-same f g h = ap any_register (λ i. λ q. h q i)
-
-pub stays-is : (n : Node) (next written : RegSet) → ((r : Reg) → has written r ≡ is_written n r) → (not (defines n.op) || any_register (λ q. has written q && has next q)) ≡ stays_at (has next) (Some n)
-stays-is n next written h = ap (λ b. not (defines n.op) || b) (any-same (λ q. has written q && has next q) (λ q. is_written n q && has next q) (λ q. ap (λ b. b && has next q) (h q)))
 
 pub more-stays : (l : LabelledNodes) (sets : List RegSet) (table : List Bool) (b : Bool) → AreStays l sets table → b ≡ stays (needs_in sets) l (length table) → AreStays l sets (table ++ b ∷ [])
 more-stays l sets table b are e i lt = ⊎_elim below here (cases_lt i (length table))

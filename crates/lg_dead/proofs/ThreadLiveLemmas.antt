@@ -70,26 +70,9 @@ jump-names x (op.Control control.Jmp last_operand.Immediate) [] r e h = refl
 jump-names x (op.Control control.Jmp last_operand.Immediate) (z ∷ xs) r e h = ap (λ b. false || (b && is_register r z)) e
 jump-names x o xs r e h = cc
 
-jump-no-call : (o : Op) → is_jump o ≡ true → is_call o ≡ false
-jump-no-call (op.Control control.Jmp last_operand.Immediate) e = refl
-jump-no-call o e = cc
-
 jump-way : (o : Op) → is_jump o ≡ true → way_of o ≡ Jump
 jump-way (op.Control control.Jmp last_operand.Immediate) e = refl
 jump-way o e = cc
-
-way-targets : (o : Op) → way_of o ≡ Either → has_target o ≡ true
-way-targets (op.Branch c last) e = refl
-way-targets (op.BranchSum c last) e = refl
-way-targets (op.Control control.Jmp last_operand.Immediate) e = refl
-way-targets (op.Control control.Jmp last_operand.Register) e = cc
-way-targets (op.Control control.Call last) e = cc
-way-targets (op.Control control.Finish last) e = cc
-way-targets (op.Control control.Pusharg last) e = cc
-way-targets (op.Control control.Ret last) e = cc
-way-targets (op.Plain plain.Ret) e = cc
-way-targets (op.Plain plain.Epilog) e = cc
-way-targets o e = cc
 
 way-jumps : (o : Op) → way_of o ≡ Jump → is_jump o ≡ true
 way-jumps (op.Control control.Jmp last_operand.Immediate) e = refl
@@ -119,11 +102,7 @@ live-inside l s r i (live.kept_to j k n e w c x) = slice_get_within l.nodes i n 
 -- the label of a target
 goes-to : (places : List (Option Place)) (xs : List Operand) (k : ℕ) → target_of places xs ≡ Some (place.Node k) → node_of_label places (slice_index_or xs 0 (operand.Number 0)) ≡ k
 goes-to places (operand.Label x ∷ xs) k e = ap node_in e
-goes-to places [] k e = cc
-goes-to places (operand.Reg x ∷ xs) k e = cc
-goes-to places (operand.Number x ∷ xs) k e = cc
-goes-to places (operand.Host x ∷ xs) k e = cc
-goes-to places (operand.Slot x ∷ xs) k e = cc
+goes-to places _ k e = cc
 
 module _ (l : LabelledNodes) (shape new_shape : TextShape) (targets : ℕ → Option Label) (is : IsShapeOf l shape) (formed : All InForm l.nodes) (are : AreTargets l targets) (et : new_shape.taken ≡ shape.taken) where
   abbrev keep : ℕ → Bool

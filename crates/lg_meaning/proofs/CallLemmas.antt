@@ -219,14 +219,11 @@ module _ (l : LabelledNodes) (shape : TextShape) (s : State) (n : Node) (x : AtN
 
     -- a call of a label or of a host function
     operand_fits : (A : List ℕ) (fs : List Form) (xs : List Operand) → n.operands ≡ xs → admit (form.Callee ∷ fs) xs ≡ true → has_callee n.op ≡ true → OnGoes (FitsWell l shape) (call_operand (text l shape A) s args (slice_index_or xs 0 (operand.Number 0)))
-    operand_fits A fs [] e f c = cc
-    operand_fits A fs (operand.Reg r ∷ ys) e f c = cc
-    operand_fits A fs (operand.Number k ∷ ys) e f c = cc
-    operand_fits A fs (operand.Slot k ∷ ys) e f c = cc
     operand_fits A fs (operand.Host name ∷ ys) e f c = host_fits name
     operand_fits A fs (operand.Label y ∷ ys) e f c =
         let j : IsEntry l (place_of l.places y) = x.shaped.calls s.at n y ys x.here c e in
         node_fits A (node_in (place_of l.places y)) (rw (ap node_in j.place) j.entry)
+    operand_fits A fs _ e f c = cc
 
     -- a call of a word
     entry_home : (A : List ℕ) (w k : ℕ) → entry_target (text l shape A) w ≡ Some k → home l.nodes k ≡ Some k

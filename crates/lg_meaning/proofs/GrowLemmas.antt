@@ -118,10 +118,7 @@ module _ (s : State) where
 
   operand_grows : (t : Text) (args : List ℕ) (x : Operand) → OnGoes (Grows s) (call_operand t s args x)
   operand_grows t args (operand.Host name) = host_grows args name
-  operand_grows t args (operand.Reg r) = node_grows t args _
-  operand_grows t args (operand.Number k) = node_grows t args _
-  operand_grows t args (operand.Label y) = node_grows t args _
-  operand_grows t args (operand.Slot k) = node_grows t args _
+  operand_grows t args _ = node_grows t args _
 
   named_grows : (t : Text) (args : List ℕ) (w : ℕ) (o : Option HostName) → OnGoes (Grows s) (call_named t s args w o)
   named_grows t args w (Some name) = host_grows args name
@@ -172,17 +169,13 @@ module _ (l : LabelledNodes) (shape : TextShape) (s : State) (w : IsWellShaped l
   grows_of (op.Control control.Ret last) e = need_on (Grows s) (value A s (operand_at n 0)) _ (λ v h. back_grows (Some v) s.callers)
   grows_of (op.Unary a) e = falls_grow s (unary_step A n a s) (unary_falls s A n a)
   grows_of (op.Plain plain.Movi) e = falls_grow s (movi_step A n s) (movi_falls s A n)
-  grows_of (op.Plain plain.Prepare) e = same s _ refl refl refl refl
-  grows_of (op.Plain plain.Ellipsis) e = same s _ refl refl refl refl
   grows_of (op.Plain plain.Prolog) e = prolog_grows e
   grows_of (op.Plain plain.Epilog) e = back_grows None s.callers
   grows_of (op.Plain plain.Ret) e = back_grows None s.callers
-  grows_of (op.Plain plain.Arg) e = same s _ refl refl refl refl
-  grows_of (op.Plain plain.Allocai) e = same s _ refl refl refl refl
-  grows_of (op.Plain plain.Align) e = same s _ refl refl refl refl
   grows_of (op.Plain plain.VaStart) e = falls_grow s (va_start_step A n s) (va_start_falls s A n)
   grows_of (op.Plain plain.VaArg) e = falls_grow s (va_arg_step A n s) (va_arg_falls s A n)
   grows_of (op.Plain plain.VaEnd) e = falls_grow s (va_end_step A n s) (va_end_falls s A n)
+  grows_of (op.Plain _) e = same s _ refl refl refl refl
   grows_of (op.Load v at) e = falls_grow s (load_step A n v at s) (load_falls s A n v at)
   grows_of (op.Store t at) e = store_grows s A n t at
   grows_of (op.Retval v) e = falls_grow s (retval_step n v s) (retval_falls s n v)

@@ -67,14 +67,13 @@ module _ (l : LabelledNodes) (shape : TextShape) (s : State) (n : Node) (x : AtN
   kept_of (op.Plain plain.Prepare) e = prepare_fits l shape s n x e
   kept_of (op.Plain plain.Ellipsis) e = ellipsis_fits l shape s n x e
   kept_of (op.Plain plain.Prolog) e = prolog_fits l shape s n x A e
-  kept_of (op.Plain plain.Epilog) e = leave_fits l shape s n x None
-  kept_of (op.Plain plain.Ret) e = leave_fits l shape s n x None
   kept_of (op.Plain plain.Arg) e = register_fits (quiet (on s)) (rw e refl) (rw e refl) (rw e refl) (rw e refl) (passing_falls s)
   kept_of (op.Plain plain.Allocai) e = register_fits (quiet (on s)) (rw e refl) (rw e refl) (rw e refl) (rw e refl) (passing_falls s)
   kept_of (op.Plain plain.Align) e = passes_fit l shape s n x (rw e refl) (rw e refl) (rw e refl) (on s) (passing_falls s)
   kept_of (op.Plain plain.VaStart) e = register_fits (va_start_step A n s) (rw e refl) (rw e refl) (rw e refl) (rw e refl) (va_start_falls s A n)
   kept_of (op.Plain plain.VaArg) e = register_fits (va_arg_step A n s) (rw e refl) (rw e refl) (rw e refl) (rw e refl) (va_arg_falls s A n)
   kept_of (op.Plain plain.VaEnd) e = register_fits (va_end_step A n s) (rw e refl) (rw e refl) (rw e refl) (rw e refl) (va_end_falls s A n)
+  kept_of (op.Plain _) e = leave_fits l shape s n x None
   kept_of (op.Load v at) e = register_fits (load_step A n v at s) (rw e refl) (rw e refl) (rw e refl) (rw e refl) (load_falls s A n v at)
   kept_of (op.Store t at) e = store_fits l shape s n x A t at e
   kept_of (op.Retval v) e = register_fits (retval_step n v s) (rw e refl) (rw e refl) (rw e refl) (rw e refl) (retval_falls s n v)

@@ -3,14 +3,14 @@ use Rattle.std.proofs.Common.{◌≡◌, ◌≢◌, ℕ, zero, suc, List, [], Op
 use Rattle.std.specs.List.{All}
 use Rattle.std.proofs.lemmas.List.Elements.{All-get_or}
 use Rattle.std.proofs.lemmas.Option.{slice_get_within, get_or_from_slice_get}
-use Rattle.lg_base.specs.Runs.{Status, Running, Ended, Bad, IsPrefixOf, iter}
+use Rattle.lg_base.specs.Runs.{Status, Running, IsPrefixOf, iter}
 use Rattle.lg_op.specs.Nodes.{InForm}
 use Rattle.lg_op.specs.declared.operand.Label.{Label}
 use Rattle.lg_node.specs.Nodes.{LabelledNodes}
 use Rattle.lg_node.specs.Shapes.{TextShape, IsShapeOf}
 use Rattle.lg_node.specs.ShapeLaws.{IsWellShaped, HasFunctions}
 use Rattle.lg_meaning.specs.States.{State}
-use Rattle.lg_meaning.specs.Steps.{Outcome, Goes, Ends, Undefined}
+use Rattle.lg_meaning.specs.Steps.{Outcome, Goes}
 use Rattle.lg_meaning.specs.Texts.{step}
 use Rattle.lg_meaning.specs.Fits.{FitsWell}
 use Rattle.lg_meaning.specs.Starts.{Entry, MayEnter, begins_at, MayBegin, entered_state}
@@ -23,8 +23,7 @@ module _ (f : State → Outcome) where
   -- by how the run is
   stays : (r : Run) (status : Status) → r.status ≡ status → status ≢ Running → run_step f r ≡ r
   stays r Running e h = absurd (h refl)
-  stays r (Ended status) e h = ap (λ t. going_on t (behind r (f r.state)) r) e
-  stays r Bad e h = ap (λ t. going_on t (behind r (f r.state)) r) e
+  stays r _ e h = ap (λ t. going_on t (behind r (f r.state)) r) e
 
   goes : (r : Run) → r.status ≡ Running → run_step f r ≡ behind r (f r.state)
   goes r e = ap (λ t. going_on t (behind r (f r.state)) r) e
@@ -32,23 +31,19 @@ module _ (f : State → Outcome) where
   -- by the outcome of a step
   longer : (r : Run) (o : Outcome) → IsPrefixOf r.out (behind r o).out
   longer r (Goes t bytes) = (bytes, refl)
-  longer r (Ends status) = ([], append-nil r.out)
-  longer r Undefined = ([], append-nil r.out)
+  longer r _ = ([], append-nil r.out)
 
   silent : (r : Run) (o : Outcome) → (behind r o).status ≢ Running → (behind r o).out ≡ r.out
   silent r (Goes t bytes) h = absurd (h refl)
-  silent r (Ends status) h = refl
-  silent r Undefined h = refl
+  silent r _ h = refl
 
   writes : (r : Run) (status : Status) → r.status ≡ status → IsPrefixOf r.out (run_step f r).out
   writes r Running e = subst (λ (t : Run). IsPrefixOf r.out t.out) (sym (goes r e)) (longer r (f r.state))
-  writes r (Ended status) e = ([], append-nil r.out ∙ sym (ap (λ t. t.out) (stays r (Ended status) e (λ h. cc))))
-  writes r Bad e = ([], append-nil r.out ∙ sym (ap (λ t. t.out) (stays r Bad e (λ h. cc))))
+  writes r x e = ([], append-nil r.out ∙ sym (ap (λ t. t.out) (stays r x e (λ h. cc))))
 
   ends_silently : (r : Run) (status : Status) → r.status ≡ status → (run_step f r).status ≢ Running → (run_step f r).out ≡ r.out
   ends_silently r Running e h = ap (λ t. t.out) (goes r e) ∙ silent r (f r.state) (λ g. h (ap (λ t. t.status) (goes r e) ∙ g))
-  ends_silently r (Ended status) e h = ap (λ t. t.out) (stays r (Ended status) e (λ g. cc))
-  ends_silently r Bad e h = ap (λ t. t.out) (stays r Bad e (λ g. cc))
+  ends_silently r x e h = ap (λ t. t.out) (stays r x e (λ g. cc))
 
 pub means_are_machines : MeansAreMachines
 means_are_machines l shape A = (
@@ -67,13 +62,11 @@ steps_are_means l shape A start s out k e = rw add-one (ap (run_step (step l sha
 module _ (l : LabelledNodes) (shape : TextShape) (A : List ℕ) (P : State → Type 0) (keeps : (s t : State) (bytes : List ℕ) → P s → step l shape A s ≡ Goes t bytes → P t) where
   by_outcome : (r : Run) (o : Outcome) → step l shape A r.state ≡ o → P r.state → P (behind r o).state
   by_outcome r (Goes t bytes) e h = keeps r.state t bytes h e
-  by_outcome r (Ends status) e h = h
-  by_outcome r Undefined e h = h
+  by_outcome r _ e h = h
 
   by_status : (r : Run) (status : Status) → r.status ≡ status → P r.state → P (run_step (step l shape A) r).state
   by_status r Running e h = subst (λ (t : Run). P t.state) (sym (goes (step l shape A) r e)) (by_outcome r (step l shape A r.state) refl h)
-  by_status r (Ended status) e h = subst (λ (t : Run). P t.state) (sym (stays (step l shape A) r (Ended status) e (λ g. cc))) h
-  by_status r Bad e h = subst (λ (t : Run). P t.state) (sym (stays (step l shape A) r Bad e (λ g. cc))) h
+  by_status r x e h = subst (λ (t : Run). P t.state) (sym (stays (step l shape A) r x e (λ g. cc))) h
 
   pub always : (start : State) → P start → (k : ℕ) → P (mean_from l shape A start k).state
   unfolding iter

@@ -1,5 +1,5 @@
 -- What is known at a node of an accepted text, in a state that fits.
-use Rattle.std.proofs.Common.{◌≡◌, ◌≢◌, ℕ, ◌+◌, Bool, true, false, not, List, [], ◌∷◌, Option, Some, None, refl, sym, ap, ◌∙◌, length, subst}
+use Rattle.std.proofs.Common.{◌≡◌, ◌≢◌, ℕ, ◌+◌, Bool, true, false, not, List, ◌∷◌, Option, Some, None, refl, sym, ap, ◌∙◌, length, subst}
 use Rattle.std.specs.Prelude.{◌&&◌, slice_get, is_none}
 use Rattle.std.specs.Option.{option_and_then}
 use Rattle.std.proofs.lemmas.Bool.{eq-eqb, or_right, false≢true}
@@ -67,12 +67,8 @@ still (Some call) o e = refl
 -- ---- operands
 -- a label is where a target is to stand
 pub target_first : (fs : List Form) (xs : List Operand) → admit (form.Target ∷ fs) xs ≡ true → (x : Label) × (ys : List Operand) × (xs ≡ operand.Label x ∷ ys)
-target_first fs [] e = cc
 target_first fs (operand.Label x ∷ ys) e = (x, ys, refl)
-target_first fs (operand.Reg r ∷ ys) e = cc
-target_first fs (operand.Number k ∷ ys) e = cc
-target_first fs (operand.Host name ∷ ys) e = cc
-target_first fs (operand.Slot k ∷ ys) e = cc
+target_first fs _ e = cc
 
 -- ---- functions
 -- a node that may not be outside of every function is in one

@@ -5,8 +5,7 @@ use Rattle.std.specs.Option.{option_and_then}
 use Rattle.std.proofs.lemmas.Bool.{and_parts}
 use Rattle.lg_base.specs.HostNames.{host_by_address}
 use Rattle.lg_base.specs.declared.host_name.HostName.{HostName}
-use Rattle.lg_host.specs.Host.{Host, Gives, Exits, host_of, memory}
-use Rattle.lg_host.specs.Host as host
+use Rattle.lg_host.specs.Host.{Host, Gives, host_of, memory}
 use Rattle.lg_op.specs.Forms.{admit, forms_of, last_form}
 use Rattle.lg_op.specs.Nodes.{InForm}
 use Rattle.lg_op.specs.declared.form.Form.{Form}
@@ -128,8 +127,7 @@ module _ (l : LabelledNodes) (shape : TextShape) (s : State) (n : Node) (is : Is
   host_onward : (o : Host) → OnGoes IsOnward (host_end s o)
   unfolding IsOnward
   host_onward (Gives v changes mark bytes) = refl
-  host_onward (Exits status) = tt
-  host_onward host.Undefined = tt
+  host_onward _ = tt
 
   begins_comes : (args : List ℕ) (k : ℕ) → OnGoes Comes (call_node (text l shape A) s args k)
   unfolding Comes
@@ -141,10 +139,7 @@ module _ (l : LabelledNodes) (shape : TextShape) (s : State) (n : Node) (is : Is
 
     operand_comes : (args : List ℕ) (x : Operand) → OnGoes Comes (call_operand (text l shape A) s args x)
     operand_comes args (operand.Host name) = host_comes args name
-    operand_comes args (operand.Reg r) = begins_comes args (node_of_label l.places (operand.Reg r))
-    operand_comes args (operand.Number v) = begins_comes args (node_of_label l.places (operand.Number v))
-    operand_comes args (operand.Label x) = begins_comes args (node_of_label l.places (operand.Label x))
-    operand_comes args (operand.Slot k) = begins_comes args (node_of_label l.places (operand.Slot k))
+    operand_comes args x = begins_comes args (node_of_label l.places x)
 
     named_comes : (args : List ℕ) (w : ℕ) (o : Option HostName) → OnGoes Comes (call_named (text l shape A) s args w o)
     named_comes args w (Some name) = host_comes args name
@@ -181,12 +176,10 @@ module _ (l : LabelledNodes) (shape : TextShape) (s : State) (n : Node) (is : Is
   comes_of (op.Plain plain.Prolog) e k = onward (ap way_of e) (prolog_step (text l shape A) s) (need_on IsOnward (function_here shape.functions s.at) _ (λ f h. refl))
   comes_of (op.Plain plain.Epilog) e k = absurd (cc)
   comes_of (op.Plain plain.Ret) e k = absurd (cc)
-  comes_of (op.Plain plain.Arg) e k = onward (ap way_of e) (quiet (on s)) refl
-  comes_of (op.Plain plain.Allocai) e k = onward (ap way_of e) (quiet (on s)) refl
-  comes_of (op.Plain plain.Align) e k = onward (ap way_of e) (quiet (on s)) refl
   comes_of (op.Plain plain.VaStart) e k = falls_onward (ap way_of e) (va_start_step A n s) (va_start_falls s A n)
   comes_of (op.Plain plain.VaArg) e k = falls_onward (ap way_of e) (va_arg_step A n s) (va_arg_falls s A n)
   comes_of (op.Plain plain.VaEnd) e k = falls_onward (ap way_of e) (va_end_step A n s) (va_end_falls s A n)
+  comes_of (op.Plain _) e k = onward (ap way_of e) (quiet (on s)) refl
   comes_of (op.Load v at) e k = falls_onward (ap way_of e) (load_step A n v at s) (load_falls s A n v at)
   comes_of (op.Store t at) e k = onward (ap way_of e) (store_step A n t at s) (need_on IsOnward (address A s at n 0) _ (λ a h. need_on IsOnward (value A s (operand_at n (stored_operand at))) _ (λ v g. when_on IsOnward (writable (is_open s) a (store_width t)) (quiet (on_with_carry (record s { mem = stored s.mem a (store_width t) v }))) (λ c. refl))))
   comes_of (op.Retval v) e k = falls_onward (ap way_of e) (retval_step n v s) (retval_falls s n v)

@@ -35,15 +35,13 @@ pub record Lands (test : ℕ → ℕ → Bool) (places : List (Option Place)) (k
   pub passes : test label k ≡ true
 
 landed : (test : ℕ → ℕ → Bool) (places : List (Option Place)) (A : List ℕ) (w y k : ℕ) (o : Option (Option Place)) → slice_get places y ≡ o → landing test places A w y ≡ Some k → Lands test places k
-landed test places A w y k None e h = let none : ◌≡◌ {A = Option ℕ} None (Some k) = rw e at h in cc
-landed test places A w y k (Some None) e h = let none : ◌≡◌ {A = Option ℕ} None (Some k) = rw e at h in cc
-landed test places A w y k (Some (Some (place.Image i))) e h = let none : ◌≡◌ {A = Option ℕ} None (Some k) = rw e at h in cc
 landed test places A w y k (Some (Some (place.Node i))) e h = by (slice_index A y == w) (test y i) refl (rw e at h)
   where
     by : (b c : Bool) → test y i ≡ c → ◌≡◌ {A = Option ℕ} (if b && c then Some i else None) (Some k) → Lands test places k
     by true true ok h = let same : i ≡ k = cc in record { label = y; bound = rw (← same) e; passes = rw (← same) ok }
     by true false ok h = cc
     by false c ok h = cc
+landed test places A w y k _ e h = let none : ◌≡◌ {A = Option ℕ} None (Some k) = rw e at h in cc
 
 pub last_landed : (test : ℕ → ℕ → Bool) (places : List (Option Place)) (A : List ℕ) (w n k : ℕ) → last_landing test places A w n ≡ Some k → Lands test places k
 unfolding last_landing

@@ -1,5 +1,5 @@
 -- A step is undefined exactly where the table has a reason.
-use Rattle.std.proofs.Common.{◌≡◌, ℕ, ◌+◌, ◌-◌, Bool, true, false, not, List, [], ◌∷◌, Option, Some, None, refl, sym, ap, subst}
+use Rattle.std.proofs.Common.{◌≡◌, ℕ, ◌+◌, ◌-◌, Bool, true, false, not, List, [], ◌∷◌, Option, Some, None, refl, ap, subst}
 use Rattle.std.specs.Prelude.{◌==◌, ◌||◌, nat_le, if◌then◌else◌, is_none, slice_get, slice_index, slice_index_or}
 use Rattle.std.specs.Option.{option_and_then, option_map}
 use Rattle.lg_base.specs.HostNames.{host_address, host_by_address}
@@ -70,10 +70,6 @@ reads_two : (v w : Option ℕ) (r q : Reason) (rs : List (Option Reason)) (f : �
 reads_two None w r q rs f h = refl
 reads_two (Some a) None r q rs f h = refl
 reads_two (Some a) (Some b) r q rs f h = h a b refl refl
-
-refuses : (c : Bool) (r : Reason) (rs : List (Option Reason)) (o : Outcome) → (c ≡ true → o ≡ Undefined) → (c ≡ false → IsWhy o (first rs)) → IsWhy o (first (where_so c r ∷ rs))
-refuses true r rs o u g = subst (λ (p : Outcome). IsWhy p (Some r)) (sym (u refl)) refl
-refuses false r rs o u g = g refl
 
 allows : (c : Bool) (r : Reason) (rs : List (Option Reason)) (t : State) → first rs ≡ None → IsWhy (when c (quiet t)) (first (where_so (not c) r ∷ rs))
 allows true r rs t h = h
@@ -147,10 +143,7 @@ module _ (t : Text) (s : State) (args : List ℕ) where
 
   operand_called : (x : Operand) → call_operand t s args x ≡ call_of (called_by_name t x)
   operand_called (operand.Host name) = refl
-  operand_called (operand.Label l) = entered (function_here t.functions (node_of_label t.places (operand.Label l)))
-  operand_called (operand.Reg r) = entered (function_here t.functions (node_of_label t.places (operand.Reg r)))
-  operand_called (operand.Number k) = entered (function_here t.functions (node_of_label t.places (operand.Number k)))
-  operand_called (operand.Slot k) = entered (function_here t.functions (node_of_label t.places (operand.Slot k)))
+  operand_called x = entered (function_here t.functions (node_of_label t.places x))
 
   host_why : (h : Host) (r : Reason) → IsWhy (host_end s h) (first (where_so (is_undefined h) r ∷ None ∷ []))
   host_why (Gives v changes mark bytes) r = refl
@@ -254,16 +247,14 @@ module _ (t : Text) (n : Node) (s : State) where
   sum_store v at (Some a) e (Some b) f (Some w) g is = rw (is, e, f, g) (stores v (add_words a b) w)
 
   load_by : (v : ValueType) (at : Addressing) → IsWhy (node_step t n (op.Load v at) s) (why_of t n (op.Load v at) s)
-  load_by v addressing.Register = reads_one (value_of 1) (unset 1) _ _ (λ a e. rw e (loads v a))
-  load_by v addressing.Immediate = reads_one (value_of 1) (unset 1) _ _ (λ a e. rw e (loads v a))
   load_by v addressing.RegisterRegister = sum_load v addressing.RegisterRegister (value_of 1) refl (value_of 2) refl refl
   load_by v addressing.RegisterImmediate = sum_load v addressing.RegisterImmediate (value_of 1) refl (value_of 2) refl refl
+  load_by v _ = reads_one (value_of 1) (unset 1) _ _ (λ a e. rw e (loads v a))
 
   store_by : (v : StoreType) (at : Addressing) → IsWhy (node_step t n (op.Store v at) s) (why_of t n (op.Store v at) s)
-  store_by v addressing.Register = reads_two (value_of 0) (value_of 1) (unset 0) (unset 1) _ _ (λ a w e f. rw e (stores v a w))
-  store_by v addressing.Immediate = reads_two (value_of 0) (value_of 1) (unset 0) (unset 1) _ _ (λ a w e f. rw e (stores v a w))
   store_by v addressing.RegisterRegister = sum_store v addressing.RegisterRegister (value_of 0) refl (value_of 1) refl (value_of 2) refl refl
   store_by v addressing.RegisterImmediate = sum_store v addressing.RegisterImmediate (value_of 0) refl (value_of 1) refl (value_of 2) refl refl
+  store_by v _ = reads_two (value_of 0) (value_of 1) (unset 0) (unset 1) _ _ (λ a w e f. rw e (stores v a w))
 
   -- the step of a node is undefined exactly where the table has a reason
   pub node_why : (o : Op) → n.op ≡ o → InForm n → (o ≡ op.Plain plain.Prolog → (f : Function) × (function_here t.functions s.at ≡ Some f)) → IsWhy (node_step t n o s) (why_of t n o s)

@@ -52,131 +52,47 @@ every_address P r i xr xi addressing.RegisterImmediate = xi
 
 binary_again : (op : BinaryOp) (last : LastOperand) → IsFound (Binary op last)
 binary_again binary.Add = both _ refl refl
-binary_again binary.Sub = both _ refl refl
-binary_again binary.Rsb = both _ refl refl
-binary_again binary.Mul = both _ refl refl
-binary_again binary.And = both _ refl refl
-binary_again binary.Or = both _ refl refl
-binary_again binary.Xor = both _ refl refl
-binary_again binary.Lsh = both _ refl refl
-binary_again binary.Rsh = both _ refl refl
-binary_again binary.RshU = both _ refl refl
-binary_again binary.Div = both _ refl refl
-binary_again binary.DivU = both _ refl refl
-binary_again binary.Rem = both _ refl refl
-binary_again binary.RemU = both _ refl refl
-binary_again binary.Addc = both _ refl refl
-binary_again binary.Subc = both _ refl refl
-binary_again binary.Addx = both _ refl refl
-binary_again binary.Subx = both _ refl refl
-binary_again binary.Lt = both _ refl refl
-binary_again binary.LtU = both _ refl refl
-binary_again binary.Le = both _ refl refl
-binary_again binary.LeU = both _ refl refl
-binary_again binary.Ge = both _ refl refl
-binary_again binary.GeU = both _ refl refl
-binary_again binary.Gt = both _ refl refl
-binary_again binary.GtU = both _ refl refl
-binary_again binary.Eq = both _ refl refl
-binary_again binary.Ne = both _ refl refl
+binary_again _ = both _ refl refl
 
 wide_again : (op : WideOp) (last : LastOperand) → IsFound (Wide op last)
 wide_again wide.Mul = both _ refl refl
-wide_again wide.MulU = both _ refl refl
-wide_again wide.Div = both _ refl refl
-wide_again wide.DivU = both _ refl refl
+wide_again _ = both _ refl refl
 
 condition_again : (op : Condition) (last : LastOperand) → IsFound (Branch op last)
 condition_again condition.Lt = both _ refl refl
-condition_again condition.LtU = both _ refl refl
-condition_again condition.Le = both _ refl refl
-condition_again condition.LeU = both _ refl refl
-condition_again condition.Ge = both _ refl refl
-condition_again condition.GeU = both _ refl refl
-condition_again condition.Gt = both _ refl refl
-condition_again condition.GtU = both _ refl refl
-condition_again condition.Eq = both _ refl refl
-condition_again condition.Ne = both _ refl refl
-condition_again condition.Ms = both _ refl refl
-condition_again condition.Mc = both _ refl refl
+condition_again _ = both _ refl refl
 
 branch_sum_again : (op : BranchSumOp) (last : LastOperand) → IsFound (BranchSum op last)
 branch_sum_again branch_sum.OverflowAdd = both _ refl refl
-branch_sum_again branch_sum.OverflowAddU = both _ refl refl
-branch_sum_again branch_sum.OverflowSub = both _ refl refl
-branch_sum_again branch_sum.OverflowSubU = both _ refl refl
-branch_sum_again branch_sum.FitAdd = both _ refl refl
-branch_sum_again branch_sum.FitAddU = both _ refl refl
-branch_sum_again branch_sum.FitSub = both _ refl refl
-branch_sum_again branch_sum.FitSubU = both _ refl refl
+branch_sum_again _ = both _ refl refl
 
 control_again : (op : ControlOp) (last : LastOperand) → IsFound (Control op last)
 control_again control.Jmp = both _ refl refl
-control_again control.Call = both _ refl refl
-control_again control.Finish = both _ refl refl
-control_again control.Pusharg = both _ refl refl
-control_again control.Ret = both _ refl refl
+control_again _ = both _ refl refl
 
 unary_again : (op : UnaryOp) → IsFound (Unary op)
 unary_again unary.Neg = refl
-unary_again unary.Com = refl
-unary_again unary.Mov = refl
-unary_again unary.ExtrC = refl
-unary_again unary.ExtrUc = refl
-unary_again unary.ExtrS = refl
-unary_again unary.ExtrUs = refl
-unary_again unary.ExtrI = refl
-unary_again unary.ExtrUi = refl
-unary_again unary.HtonrUs = refl
-unary_again unary.HtonrUi = refl
-unary_again unary.HtonrUl = refl
+unary_again _ = refl
 
 plain_again : (op : PlainOp) → IsFound (Plain op)
 plain_again plain.Movi = refl
-plain_again plain.Prepare = refl
-plain_again plain.Ellipsis = refl
-plain_again plain.Prolog = refl
-plain_again plain.Epilog = refl
-plain_again plain.Ret = refl
-plain_again plain.Arg = refl
-plain_again plain.Allocai = refl
-plain_again plain.Align = refl
-plain_again plain.VaStart = refl
-plain_again plain.VaArg = refl
-plain_again plain.VaEnd = refl
+plain_again _ = refl
 
 load_again : (t : ValueType) (at : Addressing) → IsFound (Load t at)
 load_again value_type.Char = every_address _ refl refl refl refl
-load_again value_type.UnsignedChar = every_address _ refl refl refl refl
-load_again value_type.Short = every_address _ refl refl refl refl
-load_again value_type.UnsignedShort = every_address _ refl refl refl refl
-load_again value_type.Int = every_address _ refl refl refl refl
-load_again value_type.UnsignedInt = every_address _ refl refl refl refl
-load_again value_type.Long = every_address _ refl refl refl refl
+load_again _ = every_address _ refl refl refl refl
 
 store_again : (t : StoreType) (at : Addressing) → IsFound (Store t at)
 store_again store_type.Char = every_address _ refl refl refl refl
-store_again store_type.Short = every_address _ refl refl refl refl
-store_again store_type.Int = every_address _ refl refl refl refl
-store_again store_type.Long = every_address _ refl refl refl refl
+store_again _ = every_address _ refl refl refl refl
 
 retval_again : (t : ValueType) → IsFound (Retval t)
 retval_again value_type.Char = refl
-retval_again value_type.UnsignedChar = refl
-retval_again value_type.Short = refl
-retval_again value_type.UnsignedShort = refl
-retval_again value_type.Int = refl
-retval_again value_type.UnsignedInt = refl
-retval_again value_type.Long = refl
+retval_again _ = refl
 
 getarg_again : (t : ValueType) → IsFound (Getarg t)
 getarg_again value_type.Char = refl
-getarg_again value_type.UnsignedChar = refl
-getarg_again value_type.Short = refl
-getarg_again value_type.UnsignedShort = refl
-getarg_again value_type.Int = refl
-getarg_again value_type.UnsignedInt = refl
-getarg_again value_type.Long = refl
+getarg_again _ = refl
 
 pub again : (op : Op) → IsFound op
 again (Binary op last) = binary_again op last
@@ -203,27 +119,10 @@ long_again (BranchSum op last) h = absurd (false≢true h)
 long_again (Control op last) h = absurd (false≢true h)
 long_again (Unary op) h = absurd (false≢true h)
 long_again (Plain op) h = absurd (false≢true h)
-long_again (Load value_type.Char at) h = absurd (false≢true h)
-long_again (Load value_type.UnsignedChar at) h = absurd (false≢true h)
-long_again (Load value_type.Short at) h = absurd (false≢true h)
-long_again (Load value_type.UnsignedShort at) h = absurd (false≢true h)
-long_again (Load value_type.Int at) h = absurd (false≢true h)
-long_again (Load value_type.UnsignedInt at) h = absurd (false≢true h)
-long_again (Store store_type.Char at) h = absurd (false≢true h)
-long_again (Store store_type.Short at) h = absurd (false≢true h)
-long_again (Store store_type.Int at) h = absurd (false≢true h)
-long_again (Retval value_type.Char) h = absurd (false≢true h)
-long_again (Retval value_type.UnsignedChar) h = absurd (false≢true h)
-long_again (Retval value_type.Short) h = absurd (false≢true h)
-long_again (Retval value_type.UnsignedShort) h = absurd (false≢true h)
-long_again (Retval value_type.Int) h = absurd (false≢true h)
-long_again (Retval value_type.UnsignedInt) h = absurd (false≢true h)
-long_again (Getarg value_type.Char) h = absurd (false≢true h)
-long_again (Getarg value_type.UnsignedChar) h = absurd (false≢true h)
-long_again (Getarg value_type.Short) h = absurd (false≢true h)
-long_again (Getarg value_type.UnsignedShort) h = absurd (false≢true h)
-long_again (Getarg value_type.Int) h = absurd (false≢true h)
-long_again (Getarg value_type.UnsignedInt) h = absurd (false≢true h)
+long_again (Load _ at) h = absurd (false≢true h)
+long_again (Store _ at) h = absurd (false≢true h)
+long_again (Retval _) h = absurd (false≢true h)
+long_again (Getarg _) h = absurd (false≢true h)
 
 -- a test of a word says whether it names the operation
 is_name_of : (op : Op) (word : List ℕ) → is_name op word ≡ true → IsName op word

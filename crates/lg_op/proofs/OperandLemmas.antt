@@ -1,5 +1,5 @@
 -- An operand more in the short list.
-use Rattle.std.proofs.Common.{◌≡◌, ℕ, zero, suc, slice_index_or, ◌≤◌, ◌∙◌, ◌+◌, ◌-◌, ◌<◌, sym, List, [], ◌∷◌, ◌++◌, length, take, subst, ap, refl, arith}
+use Rattle.std.proofs.Common.{◌≡◌, ℕ, zero, suc, slice_index_or, ◌∙◌, ◌+◌, ◌-◌, ◌<◌, sym, List, [], ◌∷◌, ◌++◌, length, take, subst, ap, refl, arith}
 use Rattle.std.specs.Prelude.{slice_set}
 use Rattle.lg_op.specs.declared.operand.Operand.{Operand}
 use Rattle.lg_op.specs.declared.operand.Operand.TheVariants as operand

@@ -4,14 +4,12 @@
 
 mod dropping;
 mod drops;
-pub mod follow_laws;
 mod hops;
 pub mod labels;
 pub mod laws;
 pub mod moves;
 pub mod rebuilding;
 pub mod rewritten;
-pub mod rewritten_laws;
 mod sources;
 mod targets;
 mod threading;

@@ -35,9 +35,6 @@ module _ (nodes : List Node) (places old new : List ℕ) (count : ℕ) (n : Node
   within : count + 1 < length places
   within = let c = placed.count in omega (arith, c, below)
 
-  pub not_shorter : length old ≤ slice_index places (count + 1)
-  not_shorter = let order = placed.order count within in let long = has.long in omega (arith, order, long)
-
   module _ (long : length new ≡ slice_index places (count + 1)) (kept : (p : ℕ) → p < length old → slice_get new p ≡ slice_get old p) (filled : (p : ℕ) → length old ≤ p → p < slice_index places (count + 1) → slice_get new p ≡ Some n.line) where
     each : (i place : ℕ) (m : Node) → i < count + 1 → slice_get nodes i ≡ Some m → Holds places i place → slice_get new place ≡ Some m.line
     each i place m lt at held = elim (cases_lt i count) [

@@ -75,9 +75,6 @@ after_below nodes places run top some below (suc n) =
     (λ line e. code_below nodes places (run n).state.pc line top below e) (after_below nodes places run top some below n)
 
 -- ---- lines by two tables that agree
-pub after_same : (f g : ℕ → Option ℕ) (run : ℕ → Run CpuState) → ((pc : ℕ) → f pc ≡ g pc) → (n : ℕ) → line_after f run n ≡ line_after g run n
-after_same f g run same n = ap (λ (h : ℕ → Option ℕ). line_after h run n) (λ i pc. same pc i)
-
 pub spent_same : (f g : ℕ → Option ℕ) (run : ℕ → Run CpuState) → ((pc : ℕ) → f pc ≡ g pc) → (line n : ℕ) → spent f run line n ≡ spent g run line n
 spent_same f g run same line n = ap (λ (h : ℕ → Option ℕ). spent h run line n) (λ i pc. same pc i)
 

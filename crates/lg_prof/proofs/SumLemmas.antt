@@ -13,18 +13,6 @@ pub counted_more : (made : ℕ → Bool) (line_of : ℕ → ℕ) (line n : ℕ) 
 unfolding counted
 counted_more made line_of line n = refl
 
-pub all_more : (made : ℕ → Bool) (n : ℕ) → all_made made (suc n) ≡ all_made made n + (if made n then 1 else 0)
-unfolding all_made
-all_more made n = refl
-
-total_zero : (numbers : ℕ → ℕ) → total numbers 0 ≡ 0
-unfolding total
-total_zero numbers = refl
-
-total_more : (numbers : ℕ → ℕ) (top : ℕ) → total numbers (suc top) ≡ total numbers top + numbers top
-unfolding total
-total_more numbers top = refl
-
 -- the sum of sums
 total_sum : (f g h : ℕ → ℕ) → ((line : ℕ) → f line ≡ g line + h line) → (top : ℕ) → total f top ≡ total g top + total h top
 unfolding total
@@ -84,34 +72,6 @@ adds_up made line_of top below (suc n) =
     let here = total_step (made n) (line_of n) top (below n) in
     let both = total_sum (λ line. counted made line_of line (suc n)) (λ line. counted made line_of line n) (one (made n) (line_of n)) (λ line. counted_more made line_of line n) top in
     both ∙ ap (λ a. a + total (one (made n) (line_of n)) top) before ∙ ap (λ a. all_made made n + a) here
-
--- no more is counted than steps
-few : (b : Bool) (k n : ℕ) → k ≤ n → k + (if b then 1 else 0) ≤ suc n
-few true k n le = omega (arith, le)
-few false k n le = omega (arith, le)
-
-pub counted_few : (made : ℕ → Bool) (line_of : ℕ → ℕ) (line n : ℕ) → counted made line_of line n ≤ n
-unfolding counted
-counted_few made line_of line zero = omega arith
-counted_few made line_of line (suc n) = few (made n && line_of n == line) (counted made line_of line n) n (counted_few made line_of line n)
-
--- a step that was made counts one more at its line, and one that was not changes no number
-more_if : (b : Bool) (k : ℕ) → k + (if b then 1 else 0) ≡ (if b then k + 1 else k)
-more_if true k = omega arith
-more_if false k = omega arith
-
-eq_turned : (a b : ℕ) → (a == b) ≡ (b == a)
-eq_turned a b = grind arith
-
-pub made_more : (made : ℕ → Bool) (line_of : ℕ → ℕ) (line n at : ℕ) → made n ≡ true → line_of n ≡ at
-    → counted made line_of line (n + 1) ≡ (if line == at then counted made line_of line n + 1 else counted made line_of line n)
-made_more made line_of line n at is same =
-    let k = counted made line_of line n in
-    ap (counted made line_of line) (add-one n) ∙ counted_more made line_of line n
-    ∙ ap (λ m. k + (if m && line_of n == line then 1 else 0)) is
-    ∙ ap (λ a. k + (if a == line then 1 else 0)) same
-    ∙ more_if (at == line) k
-    ∙ ap (λ b. if b then k + 1 else k) (eq_turned at line)
 
 pub unmade_same : (made : ℕ → Bool) (line_of : ℕ → ℕ) (line n : ℕ) → made n ≡ false → counted made line_of line (n + 1) ≡ counted made line_of line n
 unmade_same made line_of line n is =

@@ -6,7 +6,6 @@ use Rattle.std.proofs.lemmas.Option.{slice_get_past}
 use Rattle.lg_base.specs.Layout.{code_base}
 use Rattle.lg_op.specs.declared.node.Node.{Node}
 use Rattle.lg_prof.specs.Places.{AreLines, Holds}
-use Rattle.lg_cpu.specs.LineCounts.{table_line}
 use Rattle.lg_prof.specs.Spent.{lies_first, line_here}
 use Rattle.lg_prof.specs.Laws.{TablesHaveLines}
 
@@ -90,11 +89,3 @@ line_is nodes places lines count are place = elim (found nodes places place coun
 
 pub tables : TablesHaveLines
 tables nodes places lines count are pc = ap (λ o. if nat_le code_base pc then o else None) (line_is nodes places lines count are (pc - code_base))
-
--- a line of a table is in it
-pub in_table : (lines : List ℕ) (pc line : ℕ) → table_line lines pc ≡ Some line → slice_get lines (pc - code_base) ≡ Some line
-in_table lines pc line e = at (nat_le code_base pc) e
-  where
-    at : (b : Bool) → (if b then slice_get lines (pc - code_base) else None) ≡ Some line → slice_get lines (pc - code_base) ≡ Some line
-    at true e = e
-    at false e = cc

@@ -1,5 +1,5 @@
 -- No text of an instruction of A64 has a line feed.
-use Rattle.std.proofs.Common.{◌≡◌, ℕ, true, List, ◌++◌, codes, refl}
+use Rattle.std.proofs.Common.{◌≡◌, ℕ, true, codes, refl}
 use Rattle.lg_a64.specs.declared.instruction.Instr.{Instr}
 use Rattle.lg_a64.specs.declared.instruction.Instr.TheVariants.{Reg, Imm, Wide, MulAdd, Bitfield, Csinc, Reverse, Scaled, Ldrx, Unscaled, Branch, BranchIf, BranchReg, Nop}
 use Rattle.lg_a64.specs.declared.instruction.RegOp.{RegOp}

@@ -5,8 +5,9 @@ use Rattle.lg_asm.specs.Assembled.{Assembled}
 use Rattle.lg_base.specs.declared.fault.FaultKind.{FaultKind}
 use Rattle.lg_base.specs.declared.refusal.Refusal.{Refusal}
 use Rattle.lg_command.specs.Commands.{AreNoCommand, Command, IsCommand}
-use Rattle.lg_command.specs.declared.command.Mode.{Mode}
-use Rattle.lg_command.specs.declared.command.Mode.TheVariants as mode
+use Rattle.lg_command.specs.Plans.{action_of, source_of}
+use Rattle.lg_command.specs.declared.plan.Action.{Action}
+use Rattle.lg_command.specs.declared.plan.Action.TheVariants as action
 use Rattle.lg_run.specs.Causes.{Causes, FaultCause, HasBack, HasCode, StepsOutCause, UndefinedCause}
 use Rattle.lg_io.specs.NamedTexts.{IsHeld}
 use Rattle.lg_io.specs.SinkChanges.{SinkChange, Took}
@@ -14,7 +15,7 @@ use Rattle.lg_run.specs.Changes.{TextsChange, TellsReads, TellsWrites}
 use Rattle.lg_run.specs.Refused.{ArgumentsFit, IsRefusedCall}
 use Rattle.lg_run.specs.Runs.{HasRun, HasMeant}
 use Rattle.lg_run.specs.Calls.{Says}
-use Rattle.lg_run.specs.Says.{AskedSays, IsCodeOf, IsStill, IsUntouched, ModeSays, NoCommandSays, Ran, ReadsFile, ReportSays, RunsCode, RunsMeaning, WroteBack, code_meaning, code_run, lines_of, listing_of}
+use Rattle.lg_run.specs.Says.{AskedSays, IsCodeOf, IsStill, IsUntouched, ActionSays, NoCommandSays, Ran, ReadsFile, ReportSays, WroteBack, code_meaning, code_run, lines_of, listing_of}
 use Rattle.lg_run.specs.declared.answer.Answer.{Answer}
 use Rattle.lg_run.specs.declared.answer.Answer.TheVariants.{Ended, Listed, Undefined, Refused, Usage, ReadFault, WriteFault, StepsOut, Fault, OutOfMemory}
 use Rattle.lg_run.specs.declared.answer.Done.{Done}
@@ -80,7 +81,7 @@ module _ (words : List (List ℕ)) (texts : TextsChange) (out : SinkChange) (cod
   refused_of None r h = absurd h.1
   refused_of (Some c) r h = ((c, h.0, h.1.says.1), h.1.says.0)
 
-  read_of : (asked : Option Command) → AskedSays words asked texts out code steps ReadFault → IsUntouched code steps out × ((c : Command) × IsCommand words c × ReadsFile c.mode × ArgumentsFit c)
+  read_of : (asked : Option Command) → AskedSays words asked texts out code steps ReadFault → IsUntouched code steps out × ((c : Command) × IsCommand words c × ReadsFile (source_of c.mode) × ArgumentsFit c)
   read_of None h = absurd h.1
   read_of (Some c) h = (h.1.says.0, (c, h.0, h.1.says.1, h.1.says.2))
 
@@ -106,67 +107,46 @@ module _ (words : List (List ℕ)) (texts : TextsChange) (out : SinkChange) (cod
       at (Fault kind pc) k = absurd k
 
   -- the rows on runs
-  steps_cause : (c : Command) (m : Mode) (ran : Assembled) (made : IsCodeOf c texts.held ran) → ModeSays m c ran made.unit steps out StepsOut → StepsOutCause m c ran made.unit
-  steps_cause c mode.Run ran made says =
+  steps_cause : (c : Command) (m : Action) (ran : Assembled) (made : IsCodeOf c texts.held ran) → ActionSays m c ran made.unit steps out StepsOut → StepsOutCause m c ran made.unit
+  steps_cause c action.Run ran made says =
       let going = subst (HasRun (code_run c ran made.unit)) says.0 says.1 in (going, lasts c texts.held ran made c.steps going)
-  steps_cause c mode.List ran made says = absurd says
-  steps_cause c mode.Gen ran made says =
-      let going = subst (HasRun (code_run c ran made.unit)) says.0 says.1 in (going, lasts c texts.held ran made c.steps going)
-  steps_cause c mode.Mean ran made says = subst (HasMeant (code_meaning c ran made.unit)) says.0 says.1
-  steps_cause c mode.Back ran made says = absurd says
-  steps_cause c mode.Profile ran made says =
-      let going = subst (HasRun (code_run c ran made.unit)) says.0 says.1 in (going, lasts c texts.held ran made c.steps going)
-  steps_cause c mode.Explain ran made says = subst (HasMeant (code_meaning c ran made.unit)) says.0 says.1
+  steps_cause c action.Mean ran made says = subst (HasMeant (code_meaning c ran made.unit)) says.0 says.1
+  steps_cause c m ran made says = absurd says
 
-  fault_cause : (c : Command) (m : Mode) (ran : Assembled) (made : IsCodeOf c texts.held ran) (kind : FaultKind) (pc : ℕ) → c.mode ≡ m → ModeSays m c ran made.unit steps out (Fault kind pc) → FaultCause steps c ran made.unit
-  fault_cause c mode.Run ran made kind pc is says = (subst RunsCode (sym is) tt, undefined_at c texts.held ran made steps kind says.2)
-  fault_cause c mode.List ran made kind pc is says = absurd says
-  fault_cause c mode.Gen ran made kind pc is says = (subst RunsCode (sym is) tt, undefined_at c texts.held ran made steps kind says.2)
-  fault_cause c mode.Mean ran made kind pc is says = absurd says
-  fault_cause c mode.Back ran made kind pc is says = absurd says
-  fault_cause c mode.Profile ran made kind pc is says = (subst RunsCode (sym is) tt, undefined_at c texts.held ran made steps kind says.2)
-  fault_cause c mode.Explain ran made kind pc is says = absurd says
+  fault_cause : (c : Command) (m : Action) (ran : Assembled) (made : IsCodeOf c texts.held ran) (kind : FaultKind) (pc : ℕ) → action_of c.mode ≡ m → ActionSays m c ran made.unit steps out (Fault kind pc) → FaultCause steps c ran made.unit
+  fault_cause c action.Run ran made kind pc is says = (is, undefined_at c texts.held ran made steps kind says.2)
+  fault_cause c m ran made kind pc is says = absurd says
 
-  undefined_cause : (c : Command) (m : Mode) (ran : Assembled) (made : IsCodeOf c texts.held ran) (line : ℕ) → c.mode ≡ m → ModeSays m c ran made.unit steps out (Undefined line) → UndefinedCause steps line c ran made.unit
-  undefined_cause c mode.Run ran made line is says = absurd says
-  undefined_cause c mode.List ran made line is says = absurd says
-  undefined_cause c mode.Gen ran made line is says = absurd says
-  undefined_cause c mode.Mean ran made line is says = (subst RunsMeaning (sym is) tt, says.0, says.1, says.2, says.3)
-  undefined_cause c mode.Back ran made line is says = absurd says
-  undefined_cause c mode.Profile ran made line is says = absurd says
-  undefined_cause c mode.Explain ran made line is says = (subst RunsMeaning (sym is) tt, says.0, says.1, says.2, says.3)
+  undefined_cause : (c : Command) (m : Action) (ran : Assembled) (made : IsCodeOf c texts.held ran) (line : ℕ) → action_of c.mode ≡ m → ActionSays m c ran made.unit steps out (Undefined line) → UndefinedCause steps line c ran made.unit
+  undefined_cause c action.Mean ran made line is says = (is, says.0, says.1, says.2, says.3)
+  undefined_cause c m ran made line is says = absurd says
 
   abbrev Lists : Type 0
-  Lists = HasCode words texts.held code (λ c ran unit. (c.mode ≡ mode.List) × Took out (listing_of ran))
+  Lists = HasCode words texts.held code (λ c ran unit. (action_of c.mode ≡ action.List) × Took out (listing_of ran))
 
-  listed_cause : (c : Command) (m : Mode) (ran : Assembled) (made : IsCodeOf c texts.held ran) → c.mode ≡ m → ModeSays m c ran made.unit steps out Listed → (c.mode ≡ mode.List) × Took out (listing_of ran)
-  listed_cause c mode.Run ran made is says = absurd says
-  listed_cause c mode.List ran made is says = (is, says.1)
-  listed_cause c mode.Gen ran made is says = absurd says
-  listed_cause c mode.Mean ran made is says = absurd says
-  listed_cause c mode.Back ran made is says = absurd says
-  listed_cause c mode.Profile ran made is says = absurd says
-  listed_cause c mode.Explain ran made is says = absurd says
+  listed_cause : (c : Command) (m : Action) (ran : Assembled) (made : IsCodeOf c texts.held ran) → action_of c.mode ≡ m → ActionSays m c ran made.unit steps out Listed → (action_of c.mode ≡ action.List) × Took out (listing_of ran)
+  listed_cause c action.List ran made is says = (is, says.1)
+  listed_cause c m ran made is says = absurd says
 
   listed_by : (c : Command) → IsCommand words c → Ran c texts.held code steps out Listed ⊎ WroteBack c texts.held code steps out Listed → Lists ⊎ HasBack words texts.held code steps out
-  listed_by c asked (inl r) = inl (record { command = c; asked = asked; ran = r.ran; is = r.is; made = r.made; here = listed_cause c c.mode r.ran r.made refl r.says })
+  listed_by c asked (inl r) = inl (record { command = c; asked = asked; ran = r.ran; is = r.is; made = r.made; here = listed_cause c (action_of c.mode) r.ran r.made refl r.says })
   listed_by c asked (inr b) = inr (record { command = c; asked = asked; wrote = b })
 
   listed_of : (asked : Option Command) → AskedSays words asked texts out code steps Listed → Lists ⊎ HasBack words texts.held code steps out
   listed_of None h = absurd h.1
   listed_of (Some c) h = listed_by c h.0 h.1.says
 
-  steps_out_of : (asked : Option Command) → AskedSays words asked texts out code steps StepsOut → HasCode words texts.held code (λ c ran unit. StepsOutCause c.mode c ran unit)
+  steps_out_of : (asked : Option Command) → AskedSays words asked texts out code steps StepsOut → HasCode words texts.held code (λ c ran unit. StepsOutCause (action_of c.mode) c ran unit)
   steps_out_of None h = absurd h.1
-  steps_out_of (Some c) h = let r = h.1.says in record { command = c; asked = h.0; ran = r.ran; is = r.is; made = r.made; here = steps_cause c c.mode r.ran r.made r.says }
+  steps_out_of (Some c) h = let r = h.1.says in record { command = c; asked = h.0; ran = r.ran; is = r.is; made = r.made; here = steps_cause c (action_of c.mode) r.ran r.made r.says }
 
   fault_of : (asked : Option Command) (kind : FaultKind) (pc : ℕ) → AskedSays words asked texts out code steps (Fault kind pc) → HasCode words texts.held code (FaultCause steps)
   fault_of None kind pc h = absurd h.1
-  fault_of (Some c) kind pc h = let r = h.1.says in record { command = c; asked = h.0; ran = r.ran; is = r.is; made = r.made; here = fault_cause c c.mode r.ran r.made kind pc refl r.says }
+  fault_of (Some c) kind pc h = let r = h.1.says in record { command = c; asked = h.0; ran = r.ran; is = r.is; made = r.made; here = fault_cause c (action_of c.mode) r.ran r.made kind pc refl r.says }
 
   undefined_of : (asked : Option Command) (line : ℕ) → AskedSays words asked texts out code steps (Undefined line) → HasCode words texts.held code (UndefinedCause steps line)
   undefined_of None line h = absurd h.1
-  undefined_of (Some c) line h = let r = h.1.says in record { command = c; asked = h.0; ran = r.ran; is = r.is; made = r.made; here = undefined_cause c c.mode r.ran r.made line refl r.says }
+  undefined_of (Some c) line h = let r = h.1.says in record { command = c; asked = h.0; ran = r.ran; is = r.is; made = r.made; here = undefined_cause c (action_of c.mode) r.ran r.made line refl r.says }
 
 -- ---- the answer
 -- an answer other than a write fault is the inner one

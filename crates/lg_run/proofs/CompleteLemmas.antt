@@ -5,8 +5,10 @@ use Rattle.lg_asm.specs.Assembled.{Assembled}
 use Rattle.lg_base.specs.Runs.{Status, Running, Bad}
 use Rattle.lg_base.specs.Runs as runs
 use Rattle.lg_command.specs.Commands.{Command, IsCommand, Takes}
-use Rattle.lg_command.specs.declared.command.Mode.{Mode}
-use Rattle.lg_command.specs.declared.command.Mode.TheVariants as mode
+use Rattle.lg_command.specs.Plans.{action_of, source_of}
+use Rattle.lg_command.specs.declared.plan.Action.{Action}
+use Rattle.lg_command.specs.declared.plan.Action.TheVariants as action
+use Rattle.lg_command.proofs.PlanLemmas.{read_back}
 use Rattle.lg_cpu.specs.Steps.{Progress, Goes, EndedWith, Faulted, status_of}
 use Rattle.lg_io.specs.Counts.{Rose}
 use Rattle.lg_io.specs.NamedTexts.{NamedTexts}
@@ -17,7 +19,7 @@ use Rattle.lg_run.specs.Changes.{TellsReads, TellsWrites, TextsChange}
 use Rattle.lg_run.specs.Refused.{IsTextIn}
 use Rattle.lg_run.specs.Complete.{AnswersCode, AnswersCommand, AnswersMeaning, AnswersRun, Comes, Completeness, SureCompleteness, IsCompleteIn, IsCompleteMean, IsCompleteRun, IsFit}
 use Rattle.lg_run.specs.Runs.{HasMeant, MeanSays, RunSays}
-use Rattle.lg_run.specs.Says.{AnswerSays, AskedSays, CodeSays, IsCodeOf, ListSays, ModeSays, NoCommandSays, Ran, TellsFaults, WroteBack, code_meaning, code_run}
+use Rattle.lg_run.specs.Says.{AnswerSays, AskedSays, CodeSays, IsCodeOf, ListSays, ActionSays, NoCommandSays, Ran, TellsFaults, WroteBack, code_meaning, code_run}
 use Rattle.lg_run.specs.declared.answer.Answer.{Answer}
 use Rattle.lg_run.specs.declared.answer.Answer.TheVariants.{Ended, Listed, Undefined, Refused, Usage, ReadFault, WriteFault, StepsOut, Fault, OutOfMemory}
 use Rattle.lg_run.proofs.CauseLemmas.{causes}
@@ -54,14 +56,11 @@ memory_of_mean c code unit = record {
     no : {s : ℕ} → OutOfMemory ≡ Ended s → ⊥
     no e = cc
 
-memory_in : (m : Mode) (c : Command) (held : Option NamedTexts) (text : List ℕ) (code : Assembled) (unit : TextUnit) → IsTextIn m c held text → IsCompleteIn m c code unit OutOfMemory
-memory_in mode.Run c held text code unit given = memory_of_run c code unit
-memory_in mode.List c held text code unit given = inr refl
-memory_in mode.Gen c held text code unit given = memory_of_run c code unit
-memory_in mode.Back c held text code unit given = absurd given
-memory_in mode.Profile c held text code unit given = memory_of_run c code unit
-memory_in mode.Mean c held text code unit given = memory_of_mean c code unit
-memory_in mode.Explain c held text code unit given = memory_of_mean c code unit
+memory_in : (m : Action) (c : Command) (held : Option NamedTexts) (text : List ℕ) (code : Assembled) (unit : TextUnit) → action_of c.mode ≡ m → IsTextIn (source_of c.mode) c held text → IsCompleteIn m c code unit OutOfMemory
+memory_in action.Run c held text code unit is given = memory_of_run c code unit
+memory_in action.List c held text code unit is given = inr refl
+memory_in action.Mean c held text code unit is given = memory_of_mean c code unit
+memory_in action.ReadBack c held text code unit is given = absurd (subst (λ s. IsTextIn s c held text) (read_back c.mode is) given)
 
 -- ---- runs
 ended_goes : {s : ℕ} → EndedWith s ≡ Goes → ⊥
@@ -169,26 +168,23 @@ module _ (c : Command) (held : Option NamedTexts) (code : Assembled) (made : IsC
   complete_list steps out ReadFault says other = absurd says
   complete_list steps out OutOfMemory says other = absurd says
 
-  complete_in : (m : Mode) (steps : ℕ) (out : SinkChange) (a : Answer) → ModeSays m c code made.unit steps out a → (a ≡ WriteFault → ⊥) → IsCompleteIn m c code made.unit a
-  complete_in mode.Run steps out a says other = complete_run steps out a says other
-  complete_in mode.List steps out a says other = complete_list steps out a says other
-  complete_in mode.Gen steps out a says other = complete_run steps out a says other
-  complete_in mode.Mean steps out a says other = complete_mean steps out a says other
-  complete_in mode.Back steps out a says other = absurd says
-  complete_in mode.Profile steps out a says other = complete_run steps out a says other
-  complete_in mode.Explain steps out a says other = complete_mean steps out a says other
+  complete_in : (m : Action) (steps : ℕ) (out : SinkChange) (a : Answer) → ActionSays m c code made.unit steps out a → (a ≡ WriteFault → ⊥) → IsCompleteIn m c code made.unit a
+  complete_in action.Run steps out a says other = complete_run steps out a says other
+  complete_in action.List steps out a says other = complete_list steps out a says other
+  complete_in action.Mean steps out a says other = complete_mean steps out a says other
+  complete_in action.ReadBack steps out a says other = absurd says
 
 -- ---- the command's answer
 module _ (c : Command) (told : NamedTexts) (out : SinkChange) (code : Option Assembled) (steps : ℕ) where
   -- code that ran is that of a fit unit
   unit_same : (unit : TextUnit) (ran : Assembled) → IsFit c told unit → (made : IsCodeOf c (Some told) ran) → made.unit ≡ unit
   unit_same unit ran fit made =
-      ok_same (sym made.reads ∙ ap unit_of (text_same c.mode c told made.text fit.text made.given fit.given) ∙ fit.reads)
+      ok_same (sym made.reads ∙ ap unit_of (text_same (source_of c.mode) c told made.text fit.text made.given fit.given) ∙ fit.reads)
 
-  ran_complete : (a : Answer) (unit : TextUnit) (ran : Assembled) → IsFit c told unit → Ran c (Some told) code steps out a → (a ≡ WriteFault → ⊥) → code ≡ Some ran → IsCompleteIn c.mode c ran unit a
+  ran_complete : (a : Answer) (unit : TextUnit) (ran : Assembled) → IsFit c told unit → Ran c (Some told) code steps out a → (a ≡ WriteFault → ⊥) → code ≡ Some ran → IsCompleteIn (action_of c.mode) c ran unit a
   ran_complete a unit ran fit r other there =
-      subst (λ x. IsCompleteIn c.mode c x unit a) (some_same (sym r.is ∙ there))
-      (subst (λ u. IsCompleteIn c.mode c r.ran u a) (unit_same unit r.ran fit r.made) (complete_in c (Some told) r.ran r.made c.mode steps out a r.says other))
+      subst (λ x. IsCompleteIn (action_of c.mode) c x unit a) (some_same (sym r.is ∙ there))
+      (subst (λ u. IsCompleteIn (action_of c.mode) c r.ran u a) (unit_same unit r.ran fit r.made) (complete_in c (Some told) r.ran r.made (action_of c.mode) steps out a r.says other))
 
   ran_answers : (a : Answer) → Ran c (Some told) code steps out a → (a ≡ WriteFault → ⊥) → AnswersCommand c told code a
   ran_answers a r other = record {
@@ -220,7 +216,7 @@ module _ (c : Command) (told : NamedTexts) (out : SinkChange) (code : Option Ass
   answers OutOfMemory says read write = record {
     refuses = λ refusal full refused. inr refl;
     makes = λ unit fit. inr refl;
-    runs = λ unit ran fit there. memory_in c.mode c (Some told) fit.text ran unit fit.given;
+    runs = λ unit ran fit there. memory_in (action_of c.mode) c (Some told) fit.text ran unit refl fit.given;
     reads = λ bytes is fits l. inr refl;
   }
   answers (Refused q) says read write = record {
@@ -240,7 +236,7 @@ module _ (c : Command) (held : Option NamedTexts) (out : SinkChange) (code : Opt
   ran_code : (a : Answer) → Ran c held code steps out a → (a ≡ WriteFault → ⊥) → AnswersCode c held code a
   ran_code a r other = record {
     long = λ long. let fits = r.made.fits in absurd (omega (arith, long, fits));
-    runs = λ ran there. subst (λ x. (made : IsCodeOf c held x) × IsCompleteIn c.mode c x made.unit a) (some_same (sym r.is ∙ there)) (r.made, complete_in c held r.ran r.made c.mode steps out a r.says other);
+    runs = λ ran there. subst (λ x. (made : IsCodeOf c held x) × IsCompleteIn (action_of c.mode) c x made.unit a) (some_same (sym r.is ∙ there)) (r.made, complete_in c held r.ran r.made (action_of c.mode) steps out a r.says other);
   }
 
   answers_code : (a : Answer) → AnswerSays c held code steps out a → (a ≡ ReadFault → ⊥) → (a ≡ WriteFault → ⊥) → AnswersCode c held code a
@@ -258,7 +254,7 @@ module _ (c : Command) (held : Option NamedTexts) (out : SinkChange) (code : Opt
   }
   answers_code OutOfMemory says read write = record {
     long = λ long. inr refl;
-    runs = λ ran there. let made = subst (CodeSays c held) there says.1 in (made, memory_in c.mode c held made.text ran made.unit made.given);
+    runs = λ ran there. let made = subst (CodeSays c held) there says.1 in (made, memory_in (action_of c.mode) c held made.text ran made.unit refl made.given);
   }
   answers_code (Refused q) says read write = record {
     long = λ long. elim says.1 [

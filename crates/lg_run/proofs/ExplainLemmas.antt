@@ -11,8 +11,11 @@ use Rattle.lg_base.specs.declared.refusal.Stop.{Stop}
 use Rattle.lg_base.specs.declared.refusal.Stop.TheVariants as stop
 use Rattle.lg_carry.specs.Agreement.{shape_of_unit}
 use Rattle.lg_command.specs.Commands.{Command}
-use Rattle.lg_command.specs.declared.command.Mode.{Mode}
-use Rattle.lg_command.specs.declared.command.Mode.TheVariants as mode
+use Rattle.lg_command.specs.Plans.{report_of, source_of}
+use Rattle.lg_command.specs.declared.plan.Report.{Report}
+use Rattle.lg_command.specs.declared.plan.Report.TheVariants as report
+use Rattle.lg_command.specs.declared.plan.Source.TheVariants as source
+use Rattle.lg_command.proofs.PlanLemmas.{explanation_means, explanation_reads}
 use Rattle.lg_explain.specs.Sentences.{refusal_lines}
 use Rattle.lg_explain.specs.declared.stop.StuckAt.{StuckAt}
 use Rattle.lg_io.specs.NamedTexts.{NamedTexts, text_under}
@@ -26,10 +29,10 @@ use Rattle.lg_run.specs.Explanations.{HasStuck, ReadExplains, StuckFor, StuckIn,
 use Rattle.lg_run.specs.ProfileStarts.{RanTells, ReadTold, WorkTells}
 use Rattle.lg_run.specs.Profiles.{TableFor, TableIn, is_run_end, table_of, tells_table}
 use Rattle.lg_run.specs.Refused.{Expands, IsRefusedCall, IsRefusedIn, IsRefusedRead, IsTextIn, IsTextUnder}
-use Rattle.lg_run.specs.Says.{AnswerSays, IsCodeOf, ModeSays, Ran, code_meaning}
+use Rattle.lg_run.specs.Says.{AnswerSays, IsCodeOf, ActionSays, Ran, code_meaning}
 use Rattle.lg_run.specs.Work.{ReadDone}
 use Rattle.lg_run.specs.declared.answer.Answer.{Answer}
-use Rattle.lg_run.specs.declared.answer.Answer.TheVariants.{Ended, Listed, Undefined, Refused, Usage, ReadFault, WriteFault, StepsOut, Fault, OutOfMemory}
+use Rattle.lg_run.specs.declared.answer.Answer.TheVariants.{Undefined, Refused, OutOfMemory}
 use Rattle.lg_run.specs.declared.answer.Done.{Done}
 use Rattle.lg_run.specs.declared.profile.Profiled.{Profiled}
 use Rattle.lg_run.specs.declared.profile.Worked.{Worked}
@@ -42,19 +45,26 @@ and_false : (b : Bool) → (b && false) ≡ false
 and_false true = refl
 and_false false = refl
 
+-- nothing is reported of a run where the mode asks for nothing
+pub nothing_tells : (c : Command) (code : Assembled) (unit : TextUnit) (p : Profiled) → report_of c.mode ≡ report.Nothing → p.tally ≡ None → p.stuck ≡ None → RanTells c code unit p
+nothing_tells c code unit p is tally stuck = (
+  subst (λ m. TableFor (tells_table m p.ran.answer) c code unit p.ran.steps (table_of p.tally)) (sym is) (ap table_of tally),
+  subst (λ m. StuckFor (tells_stuck m p.ran.answer) c code unit p.ran.steps p.stuck) (sym is) stuck,
+)
+
 -- the meaning that is explained has no table, and where it is undefined that is reported
-pub explain_tells : (c : Command) (code : Assembled) (unit : TextUnit) (p : Profiled) → c.mode ≡ mode.Explain → p.tally ≡ None
+pub explain_tells : (c : Command) (code : Assembled) (unit : TextUnit) (p : Profiled) → report_of c.mode ≡ report.Explanation → p.tally ≡ None
     → StuckWhere (is_undefined p.ran.answer) unit.nodes (shape_of_unit unit) code.labels (code_meaning c code unit p.ran.steps).state p.stuck → RanTells c code unit p
 explain_tells c code unit p is none stuck = (
   subst (λ m. TableFor (tells_table m p.ran.answer) c code unit p.ran.steps (table_of p.tally)) (sym is) (ap table_of none),
   subst (λ m. StuckFor (tells_stuck m p.ran.answer) c code unit p.ran.steps p.stuck) (sym is) stuck,
 )
 
--- where the mode is another one, or the step is not undefined, nothing is reported
+-- where nothing is explained, or the step is not undefined, nothing is reported
 pub stuck_none : (c : Command) (held : Option NamedTexts) (code : Option Assembled) (steps : ℕ) (a : Answer) (stuck : Option StuckAt) → is_undefined a ≡ false → stuck ≡ None
-    → StuckIn (tells_stuck c.mode a) c held code steps stuck
+    → StuckIn (tells_stuck (report_of c.mode) a) c held code steps stuck
 stuck_none c held code steps a stuck other none =
-    subst (λ b. StuckIn b c held code steps stuck) (sym (ap (λ b. is_explain c.mode && b) other ∙ and_false (is_explain c.mode))) none
+    subst (λ b. StuckIn b c held code steps stuck) (sym (ap (λ b. is_explain (report_of c.mode) && b) other ∙ and_false (is_explain (report_of c.mode)))) none
 
 -- nothing is reported of what stopped before it ran
 pub stopped_tells : (c : Command) (held : Option NamedTexts) (w : Worked) (d : Done) (a : Answer) → w.done ≡ d → w.tally ≡ None → w.stuck ≡ None → d.answer ≡ a → is_run_end a ≡ false → is_undefined a ≡ false
@@ -77,13 +87,13 @@ kept_tells c read d w done tally stuck told held under =
     subst (λ (x : Done × Option (List Counts) × Option StuckAt). Tells x.0 x.1 x.2) (λ i. (sym done i, sym tally i, sym stuck i)) (told held under)
   where
     Tells : Done → Option (List Counts) → Option StuckAt → Type 0
-    Tells e t s = TableIn (tells_table c.mode e.answer) c held e.code e.steps (table_of t) × StuckIn (tells_stuck c.mode e.answer) c held e.code e.steps s
+    Tells e t s = TableIn (tells_table (report_of c.mode) e.answer) c held e.code e.steps (table_of t) × StuckIn (tells_stuck (report_of c.mode) e.answer) c held e.code e.steps s
 
 -- ---- no lines
 pub unexplained : (c : Command) (held : Option NamedTexts) (w : Worked) → w.read ≡ None → is_explained w.done.answer ≡ false → WorkExplains c held w
 unexplained c held w none other =
-    subst (λ b. ExplainedIn b c held w.done.code w.done.steps w.done.answer (explained_of c.mode c.file w)) (sym (ap (λ b. is_explain c.mode && b) other ∙ and_false (is_explain c.mode)))
-    (at (is_explain c.mode))
+    subst (λ b. ExplainedIn b c held w.done.code w.done.steps w.done.answer (explained_of (report_of c.mode) c.file w)) (sym (ap (λ b. is_explain (report_of c.mode) && b) other ∙ and_false (is_explain (report_of c.mode))))
+    (at (is_explain (report_of c.mode)))
   where
     at : (b : Bool) → (if b then read_explained c.file w.read w.word w.stuck w.done.answer else []) ≡ []
     at true = ap (λ r. read_explained c.file r w.word w.stuck w.done.answer) none
@@ -100,7 +110,7 @@ pub stop_unexplained : (s : Stop) (a : Answer) → ((r : Refusal) → s ≡ stop
 stop_unexplained (stop.Refused r) a refused memory long = ap is_explained (refused r refl) ∙ ap (λ q. names_line q.kind) (long r refl)
 stop_unexplained stop.OutOfMemory a refused memory long = ap is_explained (memory refl)
 
-pub not_explained : (c : Command) (held : Option NamedTexts) (w : Worked) → is_explain c.mode ≡ false → WorkExplains c held w
+pub not_explained : (c : Command) (held : Option NamedTexts) (w : Worked) → is_explain (report_of c.mode) ≡ false → WorkExplains c held w
 not_explained c held w other =
     subst (λ b. ExplainedIn (b && is_explained w.done.answer) c held w.done.code w.done.steps w.done.answer (if b then read_explained c.file w.read w.word w.stuck w.done.answer else [])) (sym other) refl
 
@@ -115,7 +125,10 @@ same_name name = (bytes_eq-Decides name name).1 refl
 stands_alone : (name text : List ℕ) → text_under (alone name text) name ≡ Some text
 stands_alone name text = ap (λ b. if b then Some text else None) (same_name name)
 
-module _ (c : Command) (read : List ℕ) (explain : c.mode ≡ mode.Explain) where
+module _ (c : Command) (read : List ℕ) (explain : report_of c.mode ≡ report.Explanation) where
+  abbrev file : source_of c.mode ≡ source.File
+  file = explanation_reads c.mode explain
+
   abbrev told : Option NamedTexts
   told = Some (alone c.file read)
 
@@ -126,20 +139,20 @@ module _ (c : Command) (read : List ℕ) (explain : c.mode ≡ mode.Explain) whe
       named : true ≡ false → ⊥
       named e = cc
   read_refused r names (inr refused) =
-      let under = subst (λ m. IsRefusedIn m c told r) explain refused.1 in
+      let under = subst (λ m. IsRefusedIn m c told r) file refused.1 in
       subst (λ t. IsRefusedRead c t r) (some_same (sym under.1 ∙ stands_alone c.file read)) under.2
 
   -- the text of code expands from it
-  read_expands : (text : List ℕ) → IsTextIn c.mode c told text → Expands read text
+  read_expands : (text : List ℕ) → IsTextIn (source_of c.mode) c told text → Expands read text
   read_expands text given =
-      let under = subst (λ m. IsTextIn m c told text) explain given in
+      let under = subst (λ m. IsTextIn m c told text) file given in
       subst (λ t. Expands t text) (some_same (sym under.1 ∙ stands_alone c.file read)) under.2
 
   -- code of it is code of what is held under the name
   abbrev code_held : (held : Option NamedTexts) (ran : Assembled) → IsTextUnder held c.file read → IsCodeOf c told ran → IsCodeOf c held ran
   code_held held ran under made = record {
     text = made.text;
-    given = subst (λ m. IsTextIn m c held made.text) (sym explain) (read, under, read_expands made.text made.given);
+    given = subst (λ m. IsTextIn m c held made.text) (sym file) (read, under, read_expands made.text made.given);
     unit = made.unit;
     reads = made.reads;
     accepted = made.accepted;
@@ -158,22 +171,14 @@ module _ (c : Command) (read : List ℕ) (explain : c.mode ≡ mode.Explain) whe
       → IsUndefinedAt c h.ran h.made.unit steps line
   undefined_there out code steps line stuck r h =
       let same : r.ran ≡ h.ran = some_same (sym r.is ∙ h.is) in
-      let unit : r.made.unit ≡ h.made.unit = ok_same (sym r.made.reads ∙ ap unit_of (text_same c.mode c (alone c.file read) r.made.text h.made.text r.made.given h.made.given) ∙ h.made.reads) in
-      let says = subst (λ m. ModeSays m c r.ran r.made.unit steps out (Undefined line)) explain r.says in
+      let unit : r.made.unit ≡ h.made.unit = ok_same (sym r.made.reads ∙ ap unit_of (text_same (source_of c.mode) c (alone c.file read) r.made.text h.made.text r.made.given h.made.given) ∙ h.made.reads) in
+      let says = subst (λ m. ActionSays m c r.ran r.made.unit steps out (Undefined line)) (explanation_means c.mode explain) r.says in
       subst (λ u. IsUndefinedAt c h.ran u steps line) unit
       (subst (λ x. IsUndefinedAt c x r.made.unit steps line) same (record { goes = says.1; bad = says.2; at = says.3 }))
 
   explained_at : (held : Option NamedTexts) → IsTextUnder held c.file read → (out : SinkChange) (code : Option Assembled) (steps : ℕ) (word : Option (List ℕ)) (stuck : Option StuckAt) (a : Answer)
       → AnswerSays c told code steps out a → StuckIn (is_undefined a) c told code steps stuck → word ≡ word_of_answer read a
       → ExplainedIn (is_explained a) c held code steps a (answer_explained c.file read word stuck a)
-  explained_at held under out code steps word stuck (Ended status) says h e = refl
-  explained_at held under out code steps word stuck Listed says h e = refl
-  explained_at held under out code steps word stuck Usage says h e = refl
-  explained_at held under out code steps word stuck ReadFault says h e = refl
-  explained_at held under out code steps word stuck WriteFault says h e = refl
-  explained_at held under out code steps word stuck StepsOut says h e = refl
-  explained_at held under out code steps word stuck (Fault kind pc) says h e = refl
-  explained_at held under out code steps word stuck OutOfMemory says h e = refl
   explained_at held under out code steps word stuck (Refused r) says h e = by (names_line r.kind) refl
     where
       by : (b : Bool) → names_line r.kind ≡ b → ExplainedIn b c held code steps (Refused r) (if b then refusal_lines c.file read word r else [])
@@ -196,32 +201,28 @@ module _ (c : Command) (read : List ℕ) (explain : c.mode ≡ mode.Explain) whe
     where
       step_shown : ℕ → Option StuckAt → List ℕ
       step_shown line s = answer_explained c.file read word s (Undefined line)
+  explained_at held under out code steps word stuck a says h e = refl
+
+explain_is : (m : Report) → is_explain m ≡ true → m ≡ report.Explanation
+explain_is report.Explanation e = refl
+explain_is m e = cc
 
 -- what is written of what was read explains what was done
-explain_is : (m : Mode) → is_explain m ≡ true → m ≡ mode.Explain
-explain_is mode.Run e = cc
-explain_is mode.List e = cc
-explain_is mode.Mean e = cc
-explain_is mode.Gen e = cc
-explain_is mode.Back e = cc
-explain_is mode.Profile e = cc
-explain_is mode.Explain e = refl
-
 pub kept_explains : (c : Command) (read : Vec ℕ) (out : SinkChange) (d : Worked) (w : Worked) → w.done ≡ d.done → w.stuck ≡ d.stuck → w.read ≡ Some read
-    → w.word ≡ word_explained c.mode read.items d.done.answer → ReadDone c read.items out d.done → ReadTold c read.items d → ReadExplains c read.items w
-kept_explains c read out d w done stuck kept word says told held under = by (is_explain c.mode) refl
+    → w.word ≡ word_explained (report_of c.mode) read.items d.done.answer → ReadDone c read.items out d.done → ReadTold c read.items d → ReadExplains c read.items w
+kept_explains c read out d w done stuck kept word says told held under = by (is_explain (report_of c.mode)) refl
   where
     Explains : Bool → Done → Option StuckAt → Option (Vec ℕ) → Type 0
     Explains b e s r =
         ExplainedIn (b && is_explained e.answer) c held e.code e.steps e.answer (if b then read_explained c.file r w.word s e.answer else [])
 
-    by : (b : Bool) → is_explain c.mode ≡ b → WorkExplains c held w
+    by : (b : Bool) → is_explain (report_of c.mode) ≡ b → WorkExplains c held w
     by false is = not_explained c held w is
     by true is =
         let alike = stands_alone c.file read.items in
         let on = Some (alone c.file read.items) in
         let h = subst (λ b. StuckIn (b && is_undefined d.done.answer) c on d.done.code d.done.steps d.stuck) is (told on alike).1 in
-        let here = explained_at c read.items (explain_is c.mode is) held under out d.done.code d.done.steps w.word d.stuck d.done.answer (says on alike) h
+        let here = explained_at c read.items (explain_is (report_of c.mode) is) held under out d.done.code d.done.steps w.word d.stuck d.done.answer (says on alike) h
         (word ∙ ap (λ b. if b then word_of_answer read.items d.done.answer else None) is) in
         subst (λ b. Explains b w.done w.stuck w.read) (sym is)
         (subst (λ (x : Done × Option StuckAt × Option (Vec ℕ)). Explains true x.0 x.1 x.2) (λ i. (sym done i, sym stuck i, sym kept i)) here)
@@ -229,16 +230,8 @@ kept_explains c read out d w done stuck kept word says told held under = by (is_
 -- ---- memory that was requested for the word
 -- a refusal leaves all as it was, so running out of memory after it does too
 still_of : (c : Command) (held : Option NamedTexts) (code : Option Assembled) (steps : ℕ) (out : SinkChange) (a : Answer) → is_refused a ≡ true → AnswerSays c held code steps out a → out.taken' ≡ out.taken
-still_of c held code steps out (Ended status) e h = cc
-still_of c held code steps out Listed e h = cc
-still_of c held code steps out (Undefined line) e h = cc
 still_of c held code steps out (Refused r) e h = h.0.still.out_same
-still_of c held code steps out Usage e h = cc
-still_of c held code steps out ReadFault e h = cc
-still_of c held code steps out WriteFault e h = cc
-still_of c held code steps out StepsOut e h = cc
-still_of c held code steps out (Fault kind pc) e h = cc
-still_of c held code steps out OutOfMemory e h = cc
+still_of c held code steps out a e h = cc
 
 pub memory_says : (c : Command) (read : List ℕ) (out : SinkChange) (d e : Done) → is_refused d.answer ≡ true → ReadDone c read out d → e.answer ≡ OutOfMemory → e.code ≡ None → e.steps ≡ 0 → ReadDone c read out e
 memory_says c read out d e refused says answer code steps held under =
@@ -247,13 +240,5 @@ memory_says c read out d e refused says answer code steps held under =
     (record { steps_none = refl; out_same = same }, tt)
 
 pub memory_writes : (a : Answer) (out : SinkChange) → is_refused a ≡ true → TellsWrites a out → TellsWrites OutOfMemory out
-memory_writes (Ended status) out e h = cc
-memory_writes Listed out e h = cc
-memory_writes (Undefined line) out e h = cc
 memory_writes (Refused r) out e h = h
-memory_writes Usage out e h = cc
-memory_writes ReadFault out e h = cc
-memory_writes WriteFault out e h = cc
-memory_writes StepsOut out e h = cc
-memory_writes (Fault kind pc) out e h = cc
-memory_writes OutOfMemory out e h = cc
+memory_writes a out e h = cc

@@ -1,25 +1,23 @@
 -- Code that was assembled is code that a listing describes.
-use Rattle.std.proofs.Common.{◌≡◌, ℕ, ◌≤◌, true, List, [], ◌∷◌, ◌++◌, length, Some, refl, sym, ap, ap₂, ◌∙◌, subst, arith}
-use Rattle.std.specs.Prelude.{IsTrue, map, slice_get, slice_index}
+use Rattle.std.proofs.Common.{◌≡◌, ℕ, List, [], ◌∷◌, ◌++◌, Some, refl, sym, ap, ap₂, ◌∙◌, arith}
+use Rattle.std.specs.Prelude.{IsTrue, map}
 use Rattle.std.specs.List.{All}
 use Rattle.std.proofs.lemmas.List.Elements.{All-map, All-weaker}
 use Rattle.std.proofs.lemmas.Option.{slice_get-get_or, slice_get_within}
 use Rattle.lg_a64.specs.Spelling as a64
 use Rattle.lg_asm.specs.Assembled.{Assembled, IsCode}
-use Rattle.lg_base.specs.Layout.{code_base}
 use Rattle.lg_base.specs.declared.target.Target.{Target}
 use Rattle.lg_base.specs.declared.target.Target.TheVariants.{X86_64, Aarch64, Riscv64}
 use Rattle.lg_carry.specs.Blocks.{spellings}
 use Rattle.lg_list.specs.Back.{IsOf, IsWhole, IsListable}
 use Rattle.lg_list.specs.Lines.{bytes_of, joined}
 use Rattle.lg_list.specs.Lines.Entry.{Code}
-use Rattle.lg_list.specs.Listing.{AreAddressed}
 use Rattle.lg_list.specs.declared.instruction.Instruction.{Instruction}
 use Rattle.lg_list.specs.declared.instruction.Instruction.TheVariants as instruction
 use Rattle.lg_node.specs.Nodes.{is_word}
 use Rattle.lg_node.specs.declared.place.Place.TheVariants as place
 use Rattle.lg_rv.specs.Spelling as rv
-use Rattle.lg_sel.specs.Promises.{AreInstructions}
+use Rattle.lg_asm.specs.Targets.{AreInstructions}
 use Rattle.lg_sel.specs.Selected.{AreWhole}
 use Rattle.lg_x86.specs.Spelling as x86
 

@@ -1,13 +1,14 @@
 -- The numbers of a profile, from what was counted.
-use Rattle.std.proofs.Common.{◌≡◌, ℕ, suc, ◌+◌, ◌<◌, ◌≤◌, Bool, true, false, List, [], length, Option, Some, None, inl, inr, refl, sym, ap, ap₂, ◌∙◌, subst, arith, add-one}
-use Rattle.std.specs.Prelude.{◌⊎◌, ◌&&◌, if◌then◌else◌, not, slice_get, slice_index}
+use Rattle.std.proofs.Common.{◌≡◌, ℕ, suc, ◌+◌, ◌<◌, ◌≤◌, Bool, true, false, List, length, Option, Some, None, inl, inr, refl, sym, ap, ap₂, ◌∙◌, subst, arith, add-one}
+use Rattle.std.specs.Prelude.{◌&&◌, if◌then◌else◌, not, slice_get, slice_index}
 use Rattle.std.proofs.lemmas.Bool.{cases_lt}
-use Rattle.lg_asm.specs.Assembled.{Assembled, IsCode}
+use Rattle.lg_asm.specs.Assembled.{Assembled}
 use Rattle.lg_base.specs.Arguments.{args_of}
 use Rattle.lg_command.specs.Commands.{Command}
-use Rattle.lg_command.specs.declared.command.Mode.{Mode}
-use Rattle.lg_command.specs.declared.command.Mode.TheVariants as mode
-use Rattle.lg_cpu.specs.Machines.{shown, shown_at_start}
+use Rattle.lg_command.specs.Plans.{report_of}
+use Rattle.lg_command.specs.declared.plan.Report.{Report}
+use Rattle.lg_command.specs.declared.plan.Report.TheVariants as report
+use Rattle.lg_cpu.specs.Machines.{shown}
 use Rattle.lg_cpu.specs.Series.{run_from}
 use Rattle.lg_cpu.specs.States.{CpuState}
 use Rattle.lg_cpu.specs.Steps.{Progress, Run, Goes, EndedWith, machine, status_of}
@@ -38,13 +39,12 @@ use Rattle.lg_prof.proofs.SpentLemmas.{line_of_node, spent_same}
 use Rattle.lg_prof.proofs.SumLemmas.{all_are_made}
 use Rattle.lg_prof.proofs.TableLemmas.{line_is}
 use Rattle.lg_run.specs.ProfileStarts.{AreTallied, IsStartOf, TalliesFor}
-use Rattle.lg_run.specs.Profiles.{IsProfileOf, ProfilesAddUp, TableFor, TableIn, is_profile, is_run_end, meant_at, spent_at, table_of, tells_table}
+use Rattle.lg_run.specs.Profiles.{ProfilesAddUp, TableFor, TableIn, is_profile, is_run_end, meant_at, spent_at, table_of, tells_table}
 use Rattle.lg_run.specs.Runs.{HasRun, RunSays}
 use Rattle.lg_run.specs.Says.{IsCodeOf, code_meaning, code_run, trash_word}
 use Rattle.lg_run.specs.declared.answer.Answer.{Answer}
 use Rattle.lg_run.specs.declared.answer.Answer.TheVariants.{Ended, Listed, Undefined, Refused, Usage, ReadFault, WriteFault, StepsOut, Fault, OutOfMemory}
 use Rattle.lg_run.specs.declared.profile.Start.{Start}
-use Rattle.lg_run.specs.Work.{StartSays}
 use Rattle.lg_run.proofs.OverLemmas as over
 use Rattle.lg_run.proofs.RunLemmas.{goes}
 
@@ -76,10 +76,10 @@ pub table_lines_below : (nodes : List Node) (places lines : List ℕ) (top : ℕ
 table_lines_below nodes places lines top count are below place line here = line_of_node nodes places place line top below (sym (line_is nodes places lines count are place) ∙ here)
 
 -- ---- where a table is reported
-pub told_in_profile : (m : Mode) (a : Answer) → m ≡ mode.Profile → tells_table m a ≡ is_run_end a
+pub told_in_profile : (m : Report) (a : Answer) → m ≡ report.Profile → tells_table m a ≡ is_run_end a
 told_in_profile m a is = ap (λ n. tells_table n a) is
 
-not_told : (m : Mode) (a : Answer) → is_run_end a ≡ false → tells_table m a ≡ false
+not_told : (m : Report) (a : Answer) → is_run_end a ≡ false → tells_table m a ≡ false
 not_told m a is = ap (λ b. is_profile m && b) is ∙ at (is_profile m)
   where
     at : (b : Bool) → (b && false) ≡ false
@@ -88,22 +88,8 @@ not_told m a is = ap (λ b. is_profile m && b) is ∙ at (is_profile m)
 
 -- nothing is reported with other answers
 pub no_table : (c : Command) (held : Option NamedTexts) (code : Option Assembled) (steps : ℕ) (a : Answer) (tally : Option (List Counts)) → is_run_end a ≡ false → tally ≡ None
-    → TableIn (tells_table c.mode a) c held code steps (table_of tally)
-no_table c held code steps a tally other none = subst (λ b. TableIn b c held code steps (table_of tally)) (sym (not_told c.mode a other)) (ap table_of none)
-
--- what ran says of the call
-pub profile_started : (c : Command) (code : Assembled) (unit : TextUnit) (out : SinkChange) (steps : ℕ) (a : Answer) → RunSays (code_run c code unit) c.steps steps out a
-    → StartSays mode.Profile c code unit out steps a
-profile_started c code unit out steps (Ended status) h = h
-profile_started c code unit out steps Listed h = h
-profile_started c code unit out steps (Undefined line) h = h
-profile_started c code unit out steps (Refused refusal) h = h
-profile_started c code unit out steps Usage h = h
-profile_started c code unit out steps ReadFault h = h
-profile_started c code unit out steps WriteFault h = h
-profile_started c code unit out steps StepsOut h = h
-profile_started c code unit out steps (Fault kind pc) h = h
-profile_started c code unit out steps OutOfMemory h = absurd h
+    → TableIn (tells_table (report_of c.mode) a) c held code steps (table_of tally)
+no_table c held code steps a tally other none = subst (λ b. TableIn b c held code steps (table_of tally)) (sym (not_told (report_of c.mode) a other)) (ap table_of none)
 
 -- the table of code is that of the call
 pub run_tells : (c : Command) (held : Option NamedTexts) (code : Assembled) (made : IsCodeOf c held code) (b : Bool) (steps : ℕ) (lines : List ℕ) → TableFor b c code made.unit steps lines

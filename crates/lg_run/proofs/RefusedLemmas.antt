@@ -5,8 +5,12 @@ use Rattle.std.proofs.lemmas.Bool.{cases_lt}
 use Rattle.lg_base.specs.declared.refusal.Refusal.{Refusal}
 use Rattle.lg_base.specs.declared.target.Target.{Target}
 use Rattle.lg_command.specs.Commands.{Command}
+use Rattle.lg_command.specs.Plans.{action_of, source_of}
 use Rattle.lg_command.specs.declared.command.Mode.{Mode}
-use Rattle.lg_command.specs.declared.command.Mode.TheVariants as mode
+use Rattle.lg_command.specs.declared.plan.Action.TheVariants as action
+use Rattle.lg_command.specs.declared.plan.Source.{Source}
+use Rattle.lg_command.specs.declared.plan.Source.TheVariants as source
+use Rattle.lg_command.proofs.PlanLemmas.{read_back}
 use Rattle.lg_back.proofs.ListLemmas.{bad-none, bad-one}
 use Rattle.lg_io.specs.NamedTexts.{NamedTexts}
 use Rattle.lg_list.specs.Back.{Back}
@@ -17,7 +21,7 @@ use Rattle.lg_tst.specs.Units.{unit_of}
 use Rattle.lg_run.specs.Made.{made}
 use Rattle.lg_pre.specs.Expanded.{expanded}
 use Rattle.lg_run.specs.Refused.{ArgumentsFit, Expands, IsExpandedUnder, IsRefusedAs, IsRefusedBack, IsRefusedCall, IsRefusedCode, IsRefusedExpansion, IsRefusedIn, IsRefusedListing, IsRefusedRead, IsRefusedText, IsRefusedUnder, IsRefusedUnit, IsTextIn, IsTextUnder, IsUnitOf, ListingsAreRefusedOnce, MayBeFull, TextsAreRefusedOnce, code_full, most_text}
-use Rattle.lg_run.specs.Says.{ExpandsFile, IsListingUnder, ReadsFile, WantsCode}
+use Rattle.lg_run.specs.Says.{IsListingUnder}
 use Rattle.lg_run.proofs.SameLemmas.{none_some, ok_same, some_same}
 
 checked_once : (l : LabelledNodes) (r q : Refusal) → IsRefused l r → IsRefused l q → r ≡ q
@@ -103,114 +107,74 @@ back_once c told r q a b = listing_once b.0 r q (subst (λ t. IsRefusedListing t
 under_once : (c : Command) (told : NamedTexts) (r q : Refusal) → IsRefusedUnder c (Some told) r → IsRefusedUnder c (Some told) q → r ≡ q
 under_once c told r q a b = read_once c b.0 r q (subst (λ t. IsRefusedRead c t r) (some_same (sym a.1 ∙ b.1)) a.2) b.2
 
-in_once : (m : Mode) (c : Command) (told : NamedTexts) (r q : Refusal) → IsRefusedIn m c (Some told) r → IsRefusedIn m c (Some told) q → r ≡ q
-in_once mode.Run c told r q a b = under_once c told r q a b
-in_once mode.List c told r q a b = under_once c told r q a b
-in_once mode.Mean c told r q a b = under_once c told r q a b
-in_once mode.Gen c told r q a b = text_once c (made c.seed) r q a b
-in_once mode.Back c told r q a b = back_once c told r q a b
-in_once mode.Profile c told r q a b = under_once c told r q a b
-in_once mode.Explain c told r q a b = under_once c told r q a b
+in_once : (m : Source) (c : Command) (told : NamedTexts) (r q : Refusal) → IsRefusedIn m c (Some told) r → IsRefusedIn m c (Some told) q → r ≡ q
+in_once source.File c told r q a b = under_once c told r q a b
+in_once source.Generator c told r q a b = text_once c (made c.seed) r q a b
+in_once source.Listing c told r q a b = back_once c told r q a b
 
 pub call_once : (c : Command) (told : NamedTexts) (r q : Refusal) → IsRefusedCall c (Some told) r → IsRefusedCall c (Some told) q → r ≡ q
 call_once c told r q (inl a) (inl b) = a.0 ∙ sym b.0
 call_once c told r q (inl a) (inr b) = let long = a.1 in let short = b.0 in absurd (omega (arith, long, short))
 call_once c told r q (inr a) (inl b) = let short = a.0 in let long = b.1 in absurd (omega (arith, long, short))
-call_once c told r q (inr a) (inr b) = in_once c.mode c told r q a.1 b.1
+call_once c told r q (inr a) (inr b) = in_once (source_of c.mode) c told r q a.1 b.1
 
 module _ (c : Command) (told : NamedTexts) (text : List ℕ) (unit : TextUnit) (r : Refusal) (is : IsUnitOf text unit) (accepted : IsAccepted unit.nodes) where
   under_for_room : IsExpandedUnder (Some told) c.file text → IsRefusedUnder c (Some told) r → (r ≡ code_full) × MayBeFull (length unit.nodes.nodes) c.size
   under_for_room given a = read_for_room c given.0 text unit r given.2 is accepted (subst (λ t. IsRefusedRead c t r) (some_same (sym a.1 ∙ given.1)) a.2)
 
-  in_for_room : (m : Mode) → IsTextIn m c (Some told) text → IsRefusedIn m c (Some told) r → (r ≡ code_full) × MayBeFull (length unit.nodes.nodes) c.size
-  in_for_room mode.Run given a = under_for_room given a
-  in_for_room mode.List given a = under_for_room given a
-  in_for_room mode.Mean given a = under_for_room given a
-  in_for_room mode.Gen given a = text_for_room c text unit r is accepted (subst (λ t. IsRefusedText c t r) (sym given) a)
-  in_for_room mode.Back given a = absurd given
-  in_for_room mode.Profile given a = under_for_room given a
-  in_for_room mode.Explain given a = under_for_room given a
+  in_for_room : (m : Source) → IsTextIn m c (Some told) text → IsRefusedIn m c (Some told) r → (r ≡ code_full) × MayBeFull (length unit.nodes.nodes) c.size
+  in_for_room source.File given a = under_for_room given a
+  in_for_room source.Generator given a = text_for_room c text unit r is accepted (subst (λ t. IsRefusedText c t r) (sym given) a)
+  in_for_room source.Listing given a = absurd given
 
   -- a call on a text whose unit is accepted
-  pub call_for_room : ArgumentsFit c → IsTextIn c.mode c (Some told) text → IsRefusedCall c (Some told) r → (r ≡ code_full) × MayBeFull (length unit.nodes.nodes) c.size
+  pub call_for_room : ArgumentsFit c → IsTextIn (source_of c.mode) c (Some told) text → IsRefusedCall c (Some told) r → (r ≡ code_full) × MayBeFull (length unit.nodes.nodes) c.size
   call_for_room fits given (inl a) = let long = a.1 in absurd (omega (arith, long, fits))
-  call_for_room fits given (inr a) = in_for_room c.mode given a.1
+  call_for_room fits given (inr a) = in_for_room (source_of c.mode) given a.1
 
 -- a call on a listing is not refused
-back_stays : (c : Command) (told : NamedTexts) (bytes : List ℕ) (r : Refusal) → ArgumentsFit c → IsListingUnder c (Some told) bytes → (m : Mode) → m ≡ mode.Back → IsRefusedIn m c (Some told) r → ⊥
+back_stays : (c : Command) (told : NamedTexts) (bytes : List ℕ) (r : Refusal) → ArgumentsFit c → IsListingUnder c (Some told) bytes → (m : Source) → m ≡ source.Listing → IsRefusedIn m c (Some told) r → ⊥
 back_stays c told bytes r fits l m is a =
     let b = subst (λ n. IsRefusedIn n c (Some told) r) is a in
     listing_stays l.text r l.target bytes (subst (λ t. IsRefusedListing t r) (some_same (sym b.1 ∙ l.given)) b.2) l.short l.reads
 
-pub call_stays : (c : Command) (told : NamedTexts) (bytes : List ℕ) (r : Refusal) → c.mode ≡ mode.Back → ArgumentsFit c → IsListingUnder c (Some told) bytes → IsRefusedCall c (Some told) r → ⊥
+pub call_stays : (c : Command) (told : NamedTexts) (bytes : List ℕ) (r : Refusal) → source_of c.mode ≡ source.Listing → ArgumentsFit c → IsListingUnder c (Some told) bytes → IsRefusedCall c (Some told) r → ⊥
 call_stays c told bytes r is fits l (inl a) = let long = a.1 in omega (arith, long, fits)
-call_stays c told bytes r is fits l (inr a) = back_stays c told bytes r fits l c.mode is a.1
+call_stays c told bytes r is fits l (inr a) = back_stays c told bytes r fits l (source_of c.mode) is a.1
 
 -- and no code is made of it
-pub back_no_text : (c : Command) (held : Option NamedTexts) (text : List ℕ) → c.mode ≡ mode.Back → IsTextIn c.mode c held text → ⊥
+pub back_no_text : (c : Command) (held : Option NamedTexts) (text : List ℕ) → source_of c.mode ≡ source.Listing → IsTextIn (source_of c.mode) c held text → ⊥
 back_no_text c held text is given = subst (λ m. IsTextIn m c held text) is given
 
 -- a command has one text
 same_under : (c : Command) (told : NamedTexts) (text other : List ℕ) → IsExpandedUnder (Some told) c.file text → IsExpandedUnder (Some told) c.file other → text ≡ other
 same_under c told text other a b = ok_same (sym a.2.1 ∙ ap expanded (some_same (sym a.1 ∙ b.1)) ∙ b.2.1)
 
-pub text_same : (m : Mode) (c : Command) (told : NamedTexts) (text other : List ℕ) → IsTextIn m c (Some told) text → IsTextIn m c (Some told) other → text ≡ other
-text_same mode.Run c told text other a b = same_under c told text other a b
-text_same mode.List c told text other a b = same_under c told text other a b
-text_same mode.Mean c told text other a b = same_under c told text other a b
-text_same mode.Gen c told text other a b = a ∙ sym b
-text_same mode.Back c told text other a b = absurd a
-text_same mode.Profile c told text other a b = same_under c told text other a b
-text_same mode.Explain c told text other a b = same_under c told text other a b
+pub text_same : (m : Source) (c : Command) (told : NamedTexts) (text other : List ℕ) → IsTextIn m c (Some told) text → IsTextIn m c (Some told) other → text ≡ other
+text_same source.File c told text other a b = same_under c told text other a b
+text_same source.Generator c told text other a b = a ∙ sym b
+text_same source.Listing c told text other a b = absurd a
 
 -- ---- what is known of parts, and of the command
 module _ (c : Command) (held : Option NamedTexts) (r : Refusal) where
   -- what is read is the file's
-  pub read_refused : (m : Mode) (read : List ℕ) → ExpandsFile m → IsTextUnder held c.file read → IsRefusedRead c read r → IsRefusedIn m c held r
-  read_refused mode.Run read file under refused = (read, under, refused)
-  read_refused mode.List read file under refused = (read, under, refused)
-  read_refused mode.Mean read file under refused = (read, under, refused)
-  read_refused mode.Gen read file under refused = absurd file
-  read_refused mode.Back read file under refused = absurd file
-  read_refused mode.Profile read file under refused = (read, under, refused)
-  read_refused mode.Explain read file under refused = (read, under, refused)
+  pub read_refused : (m : Source) (read : List ℕ) → m ≡ source.File → IsTextUnder held c.file read → IsRefusedRead c read r → IsRefusedIn m c held r
+  read_refused m read file under refused = subst (λ s. IsRefusedIn s c held r) (sym file) (read, under, refused)
 
   under_refused : (text : List ℕ) → IsExpandedUnder held c.file text → IsRefusedText c text r → IsRefusedUnder c held r
   under_refused text given refused = (given.0, given.1, inr (given.2.0, subst (λ e. IsRefusedExpansion c e r) (sym given.2.1) refused))
 
-  pub text_refused : (m : Mode) (text : List ℕ) → IsTextIn m c held text → IsRefusedText c text r → IsRefusedIn m c held r
-  text_refused mode.Run text given refused = under_refused text given refused
-  text_refused mode.List text given refused = under_refused text given refused
-  text_refused mode.Mean text given refused = under_refused text given refused
-  text_refused mode.Gen text given refused = subst (λ t. IsRefusedText c t r) given refused
-  text_refused mode.Back text given refused = absurd given
-  text_refused mode.Profile text given refused = under_refused text given refused
-  text_refused mode.Explain text given refused = under_refused text given refused
+  pub text_refused : (m : Source) (text : List ℕ) → IsTextIn m c held text → IsRefusedText c text r → IsRefusedIn m c held r
+  text_refused source.File text given refused = under_refused text given refused
+  text_refused source.Generator text given refused = subst (λ t. IsRefusedText c t r) given refused
+  text_refused source.Listing text given refused = absurd given
 
-pub text_in : (m : Mode) (c : Command) (held : Option NamedTexts) (read text : List ℕ) → ExpandsFile m → IsTextUnder held c.file read → Expands read text → IsTextIn m c held text
-text_in mode.Run c held read text file under expands = (read, under, expands)
-text_in mode.List c held read text file under expands = (read, under, expands)
-text_in mode.Mean c held read text file under expands = (read, under, expands)
-text_in mode.Gen c held read text file under expands = absurd file
-text_in mode.Back c held read text file under expands = absurd file
-text_in mode.Profile c held read text file under expands = (read, under, expands)
-text_in mode.Explain c held read text file under expands = (read, under, expands)
+pub text_in : (m : Source) (c : Command) (held : Option NamedTexts) (read text : List ℕ) → m ≡ source.File → IsTextUnder held c.file read → Expands read text → IsTextIn m c held text
+text_in m c held read text file under expands = subst (λ s. IsTextIn s c held text) (sym file) (read, under, expands)
 
--- the file is read where it is expanded, and code is made of it
-pub file_reads : (m : Mode) → ExpandsFile m → ReadsFile m
-file_reads mode.Run file = file
-file_reads mode.List file = file
-file_reads mode.Mean file = file
-file_reads mode.Gen file = absurd file
-file_reads mode.Back file = absurd file
-file_reads mode.Profile file = file
-file_reads mode.Explain file = file
+-- code is made of a file that is expanded, and of the generator's text
+pub file_wanted : (m : Mode) → source_of m ≡ source.File → action_of m ≡ action.ReadBack → ⊥
+file_wanted m is back = let e : source.File ≡ source.Listing = sym is ∙ read_back m back in cc
 
-pub file_wanted : (m : Mode) → ExpandsFile m → WantsCode m
-file_wanted mode.Run file = file
-file_wanted mode.List file = file
-file_wanted mode.Mean file = file
-file_wanted mode.Gen file = absurd file
-file_wanted mode.Back file = absurd file
-file_wanted mode.Profile file = file
-file_wanted mode.Explain file = file
+pub made_wanted : (m : Mode) → source_of m ≡ source.Generator → action_of m ≡ action.ReadBack → ⊥
+made_wanted m is back = let e : source.Generator ≡ source.Listing = sym is ∙ read_back m back in cc

@@ -1,5 +1,5 @@
 -- Texts that grow row by row.
-use Rattle.std.proofs.Common.{◌≡◌, ℕ, suc, ◌+◌, ◌-◌, ◌<◌, ◌≤◌, List, [], ◌++◌, refl, sym, ap, ◌∙◌, arith, append_assoc, append-nil}
+use Rattle.std.proofs.Common.{◌≡◌, ℕ, suc, ◌+◌, ◌-◌, ◌<◌, ◌≤◌, List, [], ◌++◌, sym, ap, ◌∙◌, arith, append_assoc, append-nil}
 use Rattle.lg_run.specs.Made.{call_of, calls, functions, one_function, one_piece, pieces}
 
 one_less : (n k : ℕ) → k < n → n - k ≡ suc (n - (k + 1))

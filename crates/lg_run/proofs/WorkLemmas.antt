@@ -6,8 +6,9 @@ use Rattle.lg_base.specs.declared.refusal.Refusal.{Refusal}
 use Rattle.lg_base.specs.declared.refusal.Stop.{Stop}
 use Rattle.lg_base.specs.declared.refusal.Stop.TheVariants as stop
 use Rattle.lg_command.specs.Commands.{Command}
-use Rattle.lg_command.specs.declared.command.Mode.{Mode}
-use Rattle.lg_command.specs.declared.command.Mode.TheVariants as mode
+use Rattle.lg_command.specs.Plans.{action_of}
+use Rattle.lg_command.specs.declared.plan.Action.{Action}
+use Rattle.lg_command.specs.declared.plan.Action.TheVariants as action
 use Rattle.lg_io.specs.NamedTexts.{NamedTexts}
 use Rattle.lg_node.specs.Labels.{taken_labels}
 use Rattle.lg_node.specs.Nodes.{LabelledNodes}
@@ -17,7 +18,7 @@ use Rattle.lg_io.specs.SinkChanges.{SinkChange}
 use Rattle.lg_run.specs.Changes.{TellsWrites}
 use Rattle.lg_run.specs.Refused.{IsRefusedCall}
 use Rattle.lg_run.specs.Runs.{MeanSays, RunSays}
-use Rattle.lg_run.specs.Says.{AnswerSays, CodeSays, IsCodeOf, IsUntouched, ModeSays, code_meaning, code_run}
+use Rattle.lg_run.specs.Says.{ActionSays, AnswerSays, CodeSays, IsCodeOf, IsUntouched, code_meaning, code_run}
 use Rattle.lg_run.specs.Work.{StartSays, TellsNoRead}
 use Rattle.lg_run.specs.declared.answer.Answer.{Answer}
 use Rattle.lg_run.specs.declared.answer.Answer.TheVariants.{Ended, Listed, Undefined, Refused, Usage, ReadFault, WriteFault, StepsOut, Fault, OutOfMemory}
@@ -27,98 +28,33 @@ pub shape_is : (l : LabelledNodes) (s : TextShape) → IsChecked l (Ok s) → s 
 shape_is l s h = λ i. record { functions = h.0.functions i; taken = h.1 i }
 
 module _ (c : Command) (code : Assembled) (unit : TextUnit) (out : SinkChange) (steps : ℕ) where
-  pub run_started : (a : Answer) → RunSays (code_run c code unit) c.steps steps out a → StartSays mode.Run c code unit out steps a
-  run_started (Ended status) h = h
-  run_started Listed h = h
-  run_started (Undefined line) h = h
-  run_started (Refused refusal) h = h
-  run_started Usage h = h
-  run_started ReadFault h = h
-  run_started WriteFault h = h
-  run_started StepsOut h = h
-  run_started (Fault kind pc) h = h
+  pub run_started : (a : Answer) → RunSays (code_run c code unit) c.steps steps out a → StartSays action.Run c code unit out steps a
   run_started OutOfMemory h = absurd h
+  run_started a h = h
 
-  pub mean_started : (a : Answer) → MeanSays unit.nodes (code_meaning c code unit) c.steps steps out a → StartSays mode.Mean c code unit out steps a
-  mean_started (Ended status) h = h
-  mean_started Listed h = h
-  mean_started (Undefined line) h = h
-  mean_started (Refused refusal) h = h
-  mean_started Usage h = h
-  mean_started ReadFault h = h
-  mean_started WriteFault h = h
-  mean_started StepsOut h = h
-  mean_started (Fault kind pc) h = h
+  pub mean_started : (a : Answer) → MeanSays unit.nodes (code_meaning c code unit) c.steps steps out a → StartSays action.Mean c code unit out steps a
   mean_started OutOfMemory h = absurd h
+  mean_started a h = h
 
-  -- the generator's code runs as any
-  pub made_started : (a : Answer) → StartSays mode.Run c code unit out steps a → StartSays mode.Gen c code unit out steps a
-  made_started (Ended status) h = h
-  made_started Listed h = h
-  made_started (Undefined line) h = h
-  made_started (Refused refusal) h = h
-  made_started Usage h = h
-  made_started ReadFault h = h
-  made_started WriteFault h = h
-  made_started StepsOut h = h
-  made_started (Fault kind pc) h = h
-  made_started OutOfMemory h = h
+  no_refusal : (m : Action) (r : Refusal) → ActionSays m c code unit steps out (Refused r) → ⊥
+  no_refusal action.Run r h = h
+  no_refusal m r h = h
 
-  -- the meaning that is explained runs as any
-  pub explain_started : (a : Answer) → StartSays mode.Mean c code unit out steps a → StartSays mode.Explain c code unit out steps a
-  explain_started (Ended status) h = h
-  explain_started Listed h = h
-  explain_started (Undefined line) h = h
-  explain_started (Refused refusal) h = h
-  explain_started Usage h = h
-  explain_started ReadFault h = h
-  explain_started WriteFault h = h
-  explain_started StepsOut h = h
-  explain_started (Fault kind pc) h = h
-  explain_started OutOfMemory h = h
+  no_usage : (m : Action) → ActionSays m c code unit steps out Usage → ⊥
+  no_usage action.Run h = h
+  no_usage m h = h
 
-  no_refusal : (m : Mode) (r : Refusal) → ModeSays m c code unit steps out (Refused r) → ⊥
-  no_refusal mode.Run r h = h
-  no_refusal mode.List r h = h
-  no_refusal mode.Gen r h = h
-  no_refusal mode.Mean r h = h
-  no_refusal mode.Back r h = h
-  no_refusal mode.Profile r h = h
-  no_refusal mode.Explain r h = h
-
-  no_usage : (m : Mode) → ModeSays m c code unit steps out Usage → ⊥
-  no_usage mode.Run h = h
-  no_usage mode.List h = h
-  no_usage mode.Gen h = h
-  no_usage mode.Mean h = h
-  no_usage mode.Back h = h
-  no_usage mode.Profile h = h
-  no_usage mode.Explain h = h
-
-  no_read : (m : Mode) → ModeSays m c code unit steps out ReadFault → ⊥
-  no_read mode.Run h = h
-  no_read mode.List h = h
-  no_read mode.Gen h = h
-  no_read mode.Mean h = h
-  no_read mode.Back h = h
-  no_read mode.Profile h = h
-  no_read mode.Explain h = h
+  no_read : (m : Action) → ActionSays m c code unit steps out ReadFault → ⊥
+  no_read action.Run h = h
+  no_read m h = h
 
   -- a run reports no fault of texts
-  pub run_reads : (m : Mode) (a : Answer) → StartSays m c code unit out steps a → TellsNoRead a
-  run_reads m (Ended status) h t e = e
-  run_reads m Listed h t e = e
-  run_reads m (Undefined line) h t e = e
-  run_reads m (Refused refusal) h t e = e
-  run_reads m Usage h t e = e
+  pub run_reads : (m : Action) (a : Answer) → StartSays m c code unit out steps a → TellsNoRead a
   run_reads m ReadFault h t e = absurd (no_read m h)
-  run_reads m WriteFault h t e = e
-  run_reads m StepsOut h t e = e
-  run_reads m (Fault kind pc) h t e = e
-  run_reads m OutOfMemory h t e = e
+  run_reads m a h t e = e
 
 -- the answer of a run of code
-pub run_answers : (c : Command) (held : Option NamedTexts) (code : Assembled) (made : IsCodeOf c held code) (out : SinkChange) (steps : ℕ) (a : Answer) → StartSays c.mode c code made.unit out steps a
+pub run_answers : (c : Command) (held : Option NamedTexts) (code : Assembled) (made : IsCodeOf c held code) (out : SinkChange) (steps : ℕ) (a : Answer) → StartSays (action_of c.mode) c code made.unit out steps a
     → AnswerSays c held (Some code) steps out a
 run_answers c held code made out steps (Ended status) h = record { ran = code; is = refl; made = made; says = h }
 run_answers c held code made out steps (Undefined line) h = record { ran = code; is = refl; made = made; says = h }
@@ -127,9 +63,9 @@ run_answers c held code made out steps StepsOut h = record { ran = code; is = re
 run_answers c held code made out steps (Fault kind pc) h = record { ran = code; is = refl; made = made; says = h }
 run_answers c held code made out steps OutOfMemory h = (h, made)
 run_answers c held code made out steps Listed h = inl (record { ran = code; is = refl; made = made; says = h })
-run_answers c held code made out steps (Refused refusal) h = absurd (no_refusal c code made.unit out steps c.mode refusal h)
-run_answers c held code made out steps Usage h = absurd (no_usage c code made.unit out steps c.mode h)
-run_answers c held code made out steps ReadFault h = absurd (no_read c code made.unit out steps c.mode h)
+run_answers c held code made out steps (Refused refusal) h = absurd (no_refusal c code made.unit out steps (action_of c.mode) refusal h)
+run_answers c held code made out steps Usage h = absurd (no_usage c code made.unit out steps (action_of c.mode) h)
+run_answers c held code made out steps ReadFault h = absurd (no_read c code made.unit out steps (action_of c.mode) h)
 
 -- a call that stops before it runs
 pub record Stops (s : Stop) (a : Answer) : Type 0 where

@@ -5,8 +5,9 @@ use Rattle.lg_base.specs.Runs.{Bad}
 use Rattle.lg_base.specs.declared.fault.FaultKind.{FaultKind}
 use Rattle.lg_base.specs.declared.refusal.Refusal.{Refusal}
 use Rattle.lg_command.specs.Commands.{AreNoCommand, Command, IsCommand}
-use Rattle.lg_command.specs.declared.command.Mode.{Mode}
-use Rattle.lg_command.specs.declared.command.Mode.TheVariants as mode
+use Rattle.lg_command.specs.Plans.{action_of, source_of}
+use Rattle.lg_command.specs.declared.plan.Action.{Action}
+use Rattle.lg_command.specs.declared.plan.Action.TheVariants as action
 use Rattle.lg_io.specs.Counts.{Rose}
 use Rattle.lg_io.specs.NamedTexts.{IsHeld, NamedTexts}
 use Rattle.lg_meaning.specs.Means as means
@@ -16,7 +17,7 @@ use Rattle.lg_io.specs.SinkChanges.{SinkChange, Took}
 use Rattle.lg_run.specs.Changes.{TextsChange}
 use Rattle.lg_run.specs.Refused.{ArgumentsFit, IsRefusedCall}
 use Rattle.lg_run.specs.Runs.{HasMeant, HasRun}
-use Rattle.lg_run.specs.Says.{IsCodeOf, IsStill, IsUntouched, ReadsFile, RunsCode, RunsMeaning, WroteBack, code_meaning, code_run, listing_of}
+use Rattle.lg_run.specs.Says.{IsCodeOf, IsStill, IsUntouched, ReadsFile, WroteBack, code_meaning, code_run, listing_of}
 use Rattle.lg_run.specs.declared.answer.Answer.TheVariants.{Listed, Undefined, Refused, Usage, ReadFault, WriteFault, StepsOut, Fault, OutOfMemory}
 use Rattle.lg_run.specs.declared.answer.Done.{Done}
 
@@ -44,23 +45,21 @@ abbrev pub Lasts : (nodes steps : ℕ) → (ℕ → means.Run) → Type 0
 Lasts nodes steps meaning = ((k : ℕ) → k ≤ steps / 64 → HasMeant meaning k) ⊎ IsUndefinedWithin ((steps + 1) * (nodes + 1)) meaning
 
 -- the steps ran out
-abbrev pub StepsOutCause : Mode → Command → Assembled → TextUnit → Type 0
-StepsOutCause mode.Run c code unit = HasRun (code_run c code unit) c.steps × Lasts (length unit.nodes.nodes) c.steps (code_meaning c code unit)
-StepsOutCause mode.List c code unit = ⊥
-StepsOutCause mode.Gen c code unit = HasRun (code_run c code unit) c.steps × Lasts (length unit.nodes.nodes) c.steps (code_meaning c code unit)
-StepsOutCause mode.Mean c code unit = HasMeant (code_meaning c code unit) c.steps
-StepsOutCause mode.Back c code unit = ⊥
-StepsOutCause mode.Profile c code unit = HasRun (code_run c code unit) c.steps × Lasts (length unit.nodes.nodes) c.steps (code_meaning c code unit)
-StepsOutCause mode.Explain c code unit = HasMeant (code_meaning c code unit) c.steps
+abbrev pub StepsOutCause : Action → Command → Assembled → TextUnit → Type 0
+StepsOutCause action.Run c code unit = HasRun (code_run c code unit) c.steps × Lasts (length unit.nodes.nodes) c.steps (code_meaning c code unit)
+StepsOutCause action.List c code unit = ⊥
+StepsOutCause action.Mean c code unit = HasMeant (code_meaning c code unit) c.steps
+StepsOutCause action.ReadBack c code unit = ⊥
 
 -- the run of code faulted after this many steps
 abbrev pub FaultCause : (steps : ℕ) → Command → Assembled → TextUnit → Type 0
-FaultCause steps c code unit = RunsCode c.mode × IsUndefinedWithin ((steps + 2) * (length unit.nodes.nodes + 1)) (code_meaning c code unit)
+FaultCause steps c code unit =
+    (action_of c.mode ≡ action.Run) × IsUndefinedWithin ((steps + 2) * (length unit.nodes.nodes + 1)) (code_meaning c code unit)
 
 -- the step of the meaning after this many is the first that is undefined, at this line
 abbrev pub UndefinedCause : (steps line : ℕ) → Command → Assembled → TextUnit → Type 0
 UndefinedCause steps line c code unit =
-    RunsMeaning c.mode × (steps < c.steps) × HasMeant (code_meaning c code unit) steps × ((code_meaning c code unit (steps + 1)).status ≡ Bad)
+    (action_of c.mode ≡ action.Mean) × (steps < c.steps) × HasMeant (code_meaning c code unit) steps × ((code_meaning c code unit (steps + 1)).status ≡ Bad)
     × (line ≡ line_at unit.nodes (code_meaning c code unit steps).state)
 
 pub record Causes (words : List (List ℕ)) (texts : TextsChange) (out err : SinkChange) (done : Done) : Type 0 where
@@ -71,7 +70,7 @@ pub record Causes (words : List (List ℕ)) (texts : TextsChange) (out err : Sin
       × ((done.answer ≡ Usage) ⊎ ((done.answer ≡ OutOfMemory) ⊎ ((done.answer ≡ WriteFault) × Rose err.faults err.faults')))
   pub refused : (refusal : Refusal) → done.answer ≡ Refused refusal → (c : Command) × IsCommand words c × IsRefusedCall c texts.held refusal
   -- a fault of the outside is reported only where a count rose, and each that rose is reported; a file is read only where the arguments fit
-  pub read_fault : done.answer ≡ ReadFault → Rose texts.faults texts.faults' × ((c : Command) × IsCommand words c × ReadsFile c.mode × ArgumentsFit c)
+  pub read_fault : done.answer ≡ ReadFault → Rose texts.faults texts.faults' × ((c : Command) × IsCommand words c × ReadsFile (source_of c.mode) × ArgumentsFit c)
   pub write_fault : done.answer ≡ WriteFault → Rose out.faults out.faults' ⊎ Rose err.faults err.faults'
   pub read_told : texts.faults < texts.faults' → (done.answer ≡ ReadFault) ⊎ ((done.answer ≡ WriteFault) × Rose err.faults err.faults')
   -- and none is brought about: of a sure source that holds the file that the words ask for no call failed
@@ -80,10 +79,10 @@ pub record Causes (words : List (List ℕ)) (texts : TextsChange) (out err : Sin
   pub err_told : err.faults < err.faults' → done.answer ≡ WriteFault
   -- a listing is reported only where it is asked for, and all of it was written, or where the text is one, and all its bytes were written
   pub listed : done.answer ≡ Listed
-      → HasCode words texts.held done.code (λ c code unit. (c.mode ≡ mode.List) × Took out (listing_of code))
+      → HasCode words texts.held done.code (λ c code unit. (action_of c.mode ≡ action.List) × Took out (listing_of code))
       ⊎ HasBack words texts.held done.code done.steps out
   -- the rows on runs
-  pub steps_out : done.answer ≡ StepsOut → HasCode words texts.held done.code (λ c code unit. StepsOutCause c.mode c code unit)
+  pub steps_out : done.answer ≡ StepsOut → HasCode words texts.held done.code (λ c code unit. StepsOutCause (action_of c.mode) c code unit)
   pub fault : (kind : FaultKind) (pc : ℕ) → done.answer ≡ Fault kind pc → HasCode words texts.held done.code (FaultCause done.steps)
   pub undefined : (line : ℕ) → done.answer ≡ Undefined line → HasCode words texts.held done.code (UndefinedCause done.steps line)
   -- what leaves out as it was

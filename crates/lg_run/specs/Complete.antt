@@ -6,8 +6,10 @@ use Rattle.lg_base.specs.Runs.{Status, Running, Ended, Bad}
 use Rattle.lg_base.specs.declared.fault.FaultKind.{FaultKind}
 use Rattle.lg_base.specs.declared.refusal.Refusal.{Refusal}
 use Rattle.lg_command.specs.Commands.{Command, IsCommand, Takes}
-use Rattle.lg_command.specs.declared.command.Mode.{Mode}
-use Rattle.lg_command.specs.declared.command.Mode.TheVariants as mode
+use Rattle.lg_command.specs.Plans.{action_of, source_of}
+use Rattle.lg_command.specs.declared.plan.Action.{Action}
+use Rattle.lg_command.specs.declared.plan.Action.TheVariants as action
+use Rattle.lg_command.specs.declared.plan.Source.TheVariants as source
 use Rattle.lg_cpu.specs.Steps.{Progress, Goes, EndedWith, Faulted}
 use Rattle.lg_io.specs.Counts.{Rose}
 use Rattle.lg_io.specs.NamedTexts.{IsHeld, NamedTexts}
@@ -50,26 +52,23 @@ pub record IsCompleteRun (c : Command) (code : Assembled) (unit : TextUnit) (a :
   pub ends : (m status : ℕ) → 64 * m ≤ c.steps → (code_meaning c code unit m).status ≡ Ended status → Comes a (answer.Ended status)
   pub sound : ((k : ℕ) → (code_meaning c code unit k).status ≢ Bad) → (kind : FaultKind) (pc : ℕ) → a ≢ answer.Fault kind pc
 
--- in the mode `mean`: the answer says where the meaning stands, and is its end exactly where it ends in time
+-- where the meaning runs: the answer says where the meaning stands, and is its end exactly where it ends in time
 pub record IsCompleteMean (c : Command) (code : Assembled) (unit : TextUnit) (a : Answer) : Type 0 where
   pub stands : AnswersMeaning (code_meaning c code unit c.steps).status a
   pub ends : (m status : ℕ) → m ≤ c.steps → (code_meaning c code unit m).status ≡ Ended status → Comes a (answer.Ended status)
   pub only : (status : ℕ) → a ≡ answer.Ended status → (m : ℕ) × (m ≤ c.steps) × ((code_meaning c code unit m).status ≡ Ended status)
 
-abbrev pub IsCompleteIn : Mode → Command → Assembled → TextUnit → Answer → Type 0
-IsCompleteIn mode.Run c code unit a = IsCompleteRun c code unit a
-IsCompleteIn mode.List c code unit a = Comes a answer.Listed
-IsCompleteIn mode.Gen c code unit a = IsCompleteRun c code unit a
-IsCompleteIn mode.Mean c code unit a = IsCompleteMean c code unit a
-IsCompleteIn mode.Back c code unit a = ⊥
-IsCompleteIn mode.Profile c code unit a = IsCompleteRun c code unit a
-IsCompleteIn mode.Explain c code unit a = IsCompleteMean c code unit a
+abbrev pub IsCompleteIn : Action → Command → Assembled → TextUnit → Answer → Type 0
+IsCompleteIn action.Run c code unit a = IsCompleteRun c code unit a
+IsCompleteIn action.List c code unit a = Comes a answer.Listed
+IsCompleteIn action.Mean c code unit a = IsCompleteMean c code unit a
+IsCompleteIn action.ReadBack c code unit a = ⊥
 
 -- the command's text has this unit, which is accepted and whose code has room
 pub record IsFit (c : Command) (told : NamedTexts) (unit : TextUnit) : Type 0 where
   pub fits : ArgumentsFit c
   pub text : List ℕ
-  pub given : IsTextIn c.mode c (Some told) text
+  pub given : IsTextIn (source_of c.mode) c (Some told) text
   pub reads : IsUnitOf text unit
   pub accepted : IsAccepted unit.nodes
   pub room : 256 * length unit.nodes.nodes + 256 ≤ c.size
@@ -77,7 +76,7 @@ pub record IsFit (c : Command) (told : NamedTexts) (unit : TextUnit) : Type 0 wh
 -- what is answered to a command: arguments that are too long are refused, and code that is there runs as it means
 pub record AnswersCode (c : Command) (held : Option NamedTexts) (code : Option Assembled) (a : Answer) : Type 0 where
   pub long : most_args < length (args_of c.arguments) → Comes a (answer.Refused args_too_long)
-  pub runs : (ran : Assembled) → code ≡ Some ran → (made : IsCodeOf c held ran) × IsCompleteIn c.mode c ran made.unit a
+  pub runs : (ran : Assembled) → code ≡ Some ran → (made : IsCodeOf c held ran) × IsCompleteIn (action_of c.mode) c ran made.unit a
 
 -- and where the texts are shown
 pub record AnswersCommand (c : Command) (told : NamedTexts) (code : Option Assembled) (a : Answer) : Type 0 where
@@ -85,9 +84,9 @@ pub record AnswersCommand (c : Command) (told : NamedTexts) (code : Option Assem
   pub refuses : (refusal : Refusal) → refusal ≢ code_full → IsRefusedCall c (Some told) refusal → Comes a (answer.Refused refusal)
   -- there is code of a fit unit, which runs as it means
   pub makes : (unit : TextUnit) → IsFit c told unit → IsSome code ⊎ (a ≡ answer.OutOfMemory)
-  pub runs : (unit : TextUnit) (ran : Assembled) → IsFit c told unit → code ≡ Some ran → IsCompleteIn c.mode c ran unit a
+  pub runs : (unit : TextUnit) (ran : Assembled) → IsFit c told unit → code ≡ Some ran → IsCompleteIn (action_of c.mode) c ran unit a
   -- a listing is read back
-  pub reads : (bytes : List ℕ) → c.mode ≡ mode.Back → ArgumentsFit c → IsListingUnder c (Some told) bytes → Comes a answer.Listed
+  pub reads : (bytes : List ℕ) → source_of c.mode ≡ source.Listing → ArgumentsFit c → IsListingUnder c (Some told) bytes → Comes a answer.Listed
 
 -- what is answered to words that ask for a command: it, or out of memory
 abbrev pub IsAnswered : List (List ℕ) → Option NamedTexts → Done → Type 0

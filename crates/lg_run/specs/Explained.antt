@@ -1,4 +1,4 @@
--- What explains an answer: the lines that are after it in the mode `explain`.
+-- What explains an answer: the lines that are after it where the mode asks for an explanation.
 use Rattle.std.specs.Prelude.{◌≡◌, ℕ, ◌+◌, Bool, true, false, ◌&&◌, if◌then◌else◌, List, [], Option, Some, None}
 use Rattle.lg_asm.specs.Assembled.{Assembled}
 use Rattle.lg_base.specs.Runs.{Bad}
@@ -7,8 +7,9 @@ use Rattle.lg_base.specs.declared.refusal.RefusalKind.{RefusalKind}
 use Rattle.lg_base.specs.declared.refusal.RefusalKind.TheVariants.{BadToken, UnknownName, FloatRefused, BadOperand, BadExpr, LabelTwice, LabelMissing, NotInFunction, FunctionOpen, TargetOutside, BadCall, TooManyArgs, NoSuchArg, UnknownHost, DataFull, TextTooLong, TooManyNodes, CodeFull, FrameTooBig, NoCode, ArgsTooLong, BadDirective, BadMacro, ExpandTooMuch, BadListing}
 use Rattle.lg_carry.specs.Agreement.{shape_of_unit}
 use Rattle.lg_command.specs.Commands.{Command}
-use Rattle.lg_command.specs.declared.command.Mode.{Mode}
-use Rattle.lg_command.specs.declared.command.Mode.TheVariants as mode
+use Rattle.lg_command.specs.Plans.{report_of}
+use Rattle.lg_command.specs.declared.plan.Report.{Report}
+use Rattle.lg_command.specs.declared.plan.Report.TheVariants as report
 use Rattle.lg_explain.specs.Sentences.{refusal_lines, step_lines}
 use Rattle.lg_explain.specs.Stops.{IsStuck}
 use Rattle.lg_explain.specs.Words.{word_told}
@@ -23,14 +24,10 @@ use Rattle.lg_run.specs.declared.answer.Answer.{Answer}
 use Rattle.lg_run.specs.declared.answer.Answer.TheVariants.{Ended, Listed, Undefined, Refused, Usage, ReadFault, WriteFault, StepsOut, Fault, OutOfMemory}
 
 -- ---- where there are such lines
-abbrev pub is_explain : Mode → Bool
-is_explain mode.Run = false
-is_explain mode.List = false
-is_explain mode.Mean = false
-is_explain mode.Gen = false
-is_explain mode.Back = false
-is_explain mode.Profile = false
-is_explain mode.Explain = true
+abbrev pub is_explain : Report → Bool
+is_explain report.Nothing = false
+is_explain report.Profile = false
+is_explain report.Explanation = true
 
 -- the kinds of refusal that name a line
 abbrev pub names_line : RefusalKind → Bool
@@ -73,8 +70,8 @@ is_explained StepsOut = false
 is_explained (Fault kind pc) = false
 is_explained OutOfMemory = false
 
-abbrev pub explains : Mode → Answer → Bool
-explains m answer = is_explain m && is_explained answer
+abbrev pub explains : Report → Answer → Bool
+explains r answer = is_explain r && is_explained answer
 
 -- ---- what they are
 -- what was read is refused so, and the lines are those of its line, of the kind, and of the word that the kind blames in what was read
@@ -118,7 +115,7 @@ ExplainedIn true c held code steps answer lines = IsExplained c held code steps 
 
 abbrev pub ExplainSays : Option Command → Option NamedTexts → Option Assembled → (steps : ℕ) → Answer → (lines : List ℕ) → Type 0
 ExplainSays None held code steps answer lines = lines ≡ []
-ExplainSays (Some c) held code steps answer lines = ExplainedIn (explains c.mode answer) c held code steps answer lines
+ExplainSays (Some c) held code steps answer lines = ExplainedIn (explains (report_of c.mode) answer) c held code steps answer lines
 
 -- ---- what is written of what was read, of the word to blame, and of the step before which the machine stood
 abbrev pub step_explained : (file read : List ℕ) (line : ℕ) → Option StuckAt → List ℕ

@@ -4,7 +4,8 @@ use Rattle.std.specs.Global.{Vec}
 use Rattle.lg_asm.specs.Assembled.{Assembled}
 use Rattle.lg_carry.specs.Agreement.{shape_of_unit}
 use Rattle.lg_command.specs.Commands.{Command}
-use Rattle.lg_command.specs.declared.command.Mode.{Mode}
+use Rattle.lg_command.specs.Plans.{report_of}
+use Rattle.lg_command.specs.declared.plan.Report.{Report}
 use Rattle.lg_explain.specs.Stops.{IsStuck}
 use Rattle.lg_explain.specs.Words.{word_told}
 use Rattle.lg_explain.specs.declared.stop.StuckAt.{StuckAt}
@@ -36,9 +37,9 @@ is_undefined StepsOut = false
 is_undefined (Fault kind pc) = false
 is_undefined OutOfMemory = false
 
--- why a step is undefined is reported with that answer, in the mode `explain`
-abbrev pub tells_stuck : Mode → Answer → Bool
-tells_stuck m answer = is_explain m && is_undefined answer
+-- why a step is undefined is reported with that answer, where the mode asks for an explanation
+abbrev pub tells_stuck : Report → Answer → Bool
+tells_stuck r answer = is_explain r && is_undefined answer
 
 -- a run of the machine came to a step that is undefined
 abbrev pub IsStepUndefined : RunEnd → LabelledNodes → TextShape → List ℕ → State → Type 0
@@ -80,7 +81,7 @@ is_refused StepsOut = false
 is_refused (Fault kind pc) = false
 is_refused OutOfMemory = false
 
--- the word that an answer blames in what was read, in the mode `explain`
+-- the word that an answer blames in what was read
 abbrev pub word_of_answer : (read : List ℕ) → Answer → Option (List ℕ)
 word_of_answer read (Ended status) = None
 word_of_answer read Listed = None
@@ -93,8 +94,8 @@ word_of_answer read StepsOut = None
 word_of_answer read (Fault kind pc) = None
 word_of_answer read OutOfMemory = None
 
-abbrev pub word_explained : Mode → (read : List ℕ) → Answer → Option (List ℕ)
-word_explained m read answer = if is_explain m then word_of_answer read answer else None
+abbrev pub word_explained : Report → (read : List ℕ) → Answer → Option (List ℕ)
+word_explained r read answer = if is_explain r then word_of_answer read answer else None
 
 -- the lines that explain an answer, where something was read
 abbrev pub read_explained : (file : List ℕ) → Option (Vec ℕ) → (word : Option (List ℕ)) → Option StuckAt → Answer → List ℕ
@@ -102,12 +103,12 @@ read_explained file None word stuck answer = []
 read_explained file (Some read) word stuck answer = answer_explained file read.items word stuck answer
 
 -- and what was done
-abbrev pub explained_of : Mode → (file : List ℕ) → Worked → List ℕ
-explained_of m file w = if is_explain m then read_explained file w.read w.word w.stuck w.done.answer else []
+abbrev pub explained_of : Report → (file : List ℕ) → Worked → List ℕ
+explained_of r file w = if is_explain r then read_explained file w.read w.word w.stuck w.done.answer else []
 
 -- what is said of them: of what was done for a command, and with what is under the name of the file
 abbrev pub WorkExplains : Command → Option NamedTexts → Worked → Type 0
-WorkExplains c held w = ExplainedIn (explains c.mode w.done.answer) c held w.done.code w.done.steps w.done.answer (explained_of c.mode c.file w)
+WorkExplains c held w = ExplainedIn (explains (report_of c.mode) w.done.answer) c held w.done.code w.done.steps w.done.answer (explained_of (report_of c.mode) c.file w)
 
 abbrev pub ReadExplains : Command → List ℕ → Worked → Type 0
 ReadExplains c read w = (held : Option NamedTexts) → IsTextUnder held c.file read → WorkExplains c held w

@@ -2,6 +2,7 @@
 use Rattle.std.specs.Prelude.{◌≡◌, ℕ, ◌<◌, Bool, true, false, List, Option, Some, None, length}
 use Rattle.lg_asm.specs.Assembled.{Assembled}
 use Rattle.lg_command.specs.Commands.{Command}
+use Rattle.lg_command.specs.Plans.{report_of, source_of}
 use Rattle.lg_cpu.specs.Machines.{shown, shown_at_start}
 use Rattle.lg_cpu.specs.Series.{run_from}
 use Rattle.lg_io.specs.NamedTexts.{NamedTexts}
@@ -58,17 +59,17 @@ TalliesFor true unit shape s most steps tally = (t : List Counts) × (tally ≡ 
 -- the table, and where a step of the meaning is undefined, that are reported of code that ran
 abbrev pub RanTells : Command → Assembled → TextUnit → Profiled → Type 0
 RanTells c code unit p =
-    TableFor (tells_table c.mode p.ran.answer) c code unit p.ran.steps (table_of p.tally)
-    × StuckFor (tells_stuck c.mode p.ran.answer) c code unit p.ran.steps p.stuck
+    TableFor (tells_table (report_of c.mode) p.ran.answer) c code unit p.ran.steps (table_of p.tally)
+    × StuckFor (tells_stuck (report_of c.mode) p.ran.answer) c code unit p.ran.steps p.stuck
 
 -- and of what was done with a command's text, with any text that has a unit, and with what is under the name of the file
 abbrev pub WorkTells : Command → Option NamedTexts → Worked → Type 0
 WorkTells c held w =
-    TableIn (tells_table c.mode w.done.answer) c held w.done.code w.done.steps (table_of w.tally)
-    × StuckIn (tells_stuck c.mode w.done.answer) c held w.done.code w.done.steps w.stuck
+    TableIn (tells_table (report_of c.mode) w.done.answer) c held w.done.code w.done.steps (table_of w.tally)
+    × StuckIn (tells_stuck (report_of c.mode) w.done.answer) c held w.done.code w.done.steps w.stuck
 
 abbrev pub TextTells : Command → List ℕ → Worked → Type 0
-TextTells c text w = (held : Option NamedTexts) → IsTextIn c.mode c held text → WorkTells c held w
+TextTells c text w = (held : Option NamedTexts) → IsTextIn (source_of c.mode) c held text → WorkTells c held w
 
 abbrev pub UnitTells : Command → TextUnit → Worked → Type 0
 UnitTells c unit w = (text : List ℕ) → IsUnitOf text unit → TextTells c text w

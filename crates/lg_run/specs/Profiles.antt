@@ -1,9 +1,10 @@
 -- The profile of a run: how many steps belong to each line of the text.
-use Rattle.std.specs.Prelude.{◌≡◌, ℕ, ◌<◌, ◌≤◌, Bool, true, false, ◌&&◌, List, [], Option, Some, None}
+use Rattle.std.specs.Prelude.{◌≡◌, ℕ, ◌<◌, Bool, true, false, ◌&&◌, List, [], Option, Some, None}
 use Rattle.lg_asm.specs.Assembled.{Assembled}
 use Rattle.lg_command.specs.Commands.{Command}
-use Rattle.lg_command.specs.declared.command.Mode.{Mode}
-use Rattle.lg_command.specs.declared.command.Mode.TheVariants as mode
+use Rattle.lg_command.specs.Plans.{report_of}
+use Rattle.lg_command.specs.declared.plan.Report.{Report}
+use Rattle.lg_command.specs.declared.plan.Report.TheVariants as report
 use Rattle.lg_io.specs.NamedTexts.{NamedTexts}
 use Rattle.lg_io.specs.SinkChanges.{SinkChange}
 use Rattle.lg_node.specs.declared.unit.Unit.{Unit as TextUnit}
@@ -48,18 +49,14 @@ is_run_end StepsOut = true
 is_run_end (Fault kind pc) = true
 is_run_end OutOfMemory = false
 
-abbrev pub is_profile : Mode → Bool
-is_profile mode.Run = false
-is_profile mode.List = false
-is_profile mode.Mean = false
-is_profile mode.Gen = false
-is_profile mode.Back = false
-is_profile mode.Profile = true
-is_profile mode.Explain = false
+abbrev pub is_profile : Report → Bool
+is_profile report.Nothing = false
+is_profile report.Profile = true
+is_profile report.Explanation = false
 
--- a table is reported with these answers, in the mode `profile`
-abbrev pub tells_table : Mode → Answer → Bool
-tells_table m answer = is_profile m && is_run_end answer
+-- a table is reported with these answers, where the mode asks for a profile
+abbrev pub tells_table : Report → Answer → Bool
+tells_table r answer = is_profile r && is_run_end answer
 
 -- it is that of code and of the unit from which the code was made, where it is reported, and empty elsewhere
 abbrev pub TableFor : Bool → Command → Assembled → TextUnit → (steps : ℕ) → List ℕ → Type 0
@@ -78,7 +75,7 @@ TableIn true c held code steps lines = HasProfile c held code steps lines
 
 abbrev pub TableSays : Option Command → Option NamedTexts → Option Assembled → (steps : ℕ) → Answer → List ℕ → Type 0
 TableSays None held code steps answer lines = lines ≡ []
-TableSays (Some c) held code steps answer lines = TableIn (tells_table c.mode answer) c held code steps lines
+TableSays (Some c) held code steps answer lines = TableIn (tells_table (report_of c.mode) answer) c held code steps lines
 
 -- the lines that report numbers, where there are some
 abbrev pub table_of : Option (List Counts) → List ℕ

@@ -7,8 +7,9 @@ use Rattle.lg_base.specs.declared.refusal.Refusal.{Refusal}
 use Rattle.lg_base.specs.declared.refusal.RefusalKind.TheVariants.{BadListing, CodeFull}
 use Rattle.lg_base.specs.declared.target.Target.{Target}
 use Rattle.lg_command.specs.Commands.{Command}
-use Rattle.lg_command.specs.declared.command.Mode.{Mode}
-use Rattle.lg_command.specs.declared.command.Mode.TheVariants as mode
+use Rattle.lg_command.specs.Plans.{source_of}
+use Rattle.lg_command.specs.declared.plan.Source.{Source}
+use Rattle.lg_command.specs.declared.plan.Source.TheVariants as source
 use Rattle.lg_io.specs.NamedTexts.{NamedTexts, text_under}
 use Rattle.lg_back.specs.Refused.{IsBadListing}
 use Rattle.lg_list.specs.Back.{Back}
@@ -83,15 +84,11 @@ IsTextUnder (Some texts) name text = text_under texts name ≡ Some text
 abbrev pub IsExpandedUnder : Option NamedTexts → List ℕ → List ℕ → Type 0
 IsExpandedUnder held name text = (read : List ℕ) × IsTextUnder held name read × Expands read text
 
--- the text that a command wants code of: the generator's for its seed, or the expansion of what is under the name of its file; none in the mode `back`
-abbrev pub IsTextIn : Mode → Command → Option NamedTexts → List ℕ → Type 0
-IsTextIn mode.Run c held text = IsExpandedUnder held c.file text
-IsTextIn mode.List c held text = IsExpandedUnder held c.file text
-IsTextIn mode.Mean c held text = IsExpandedUnder held c.file text
-IsTextIn mode.Gen c held text = text ≡ made c.seed
-IsTextIn mode.Back c held text = ⊥
-IsTextIn mode.Profile c held text = IsExpandedUnder held c.file text
-IsTextIn mode.Explain c held text = IsExpandedUnder held c.file text
+-- the text that a command wants code of: the expansion of what is under the name of its file, or the generator's for its seed; none of a listing
+abbrev pub IsTextIn : Source → Command → Option NamedTexts → List ℕ → Type 0
+IsTextIn source.File c held text = IsExpandedUnder held c.file text
+IsTextIn source.Generator c held text = text ≡ made c.seed
+IsTextIn source.Listing c held text = ⊥
 
 -- the words of the arguments fit the argument part
 abbrev pub ArgumentsFit : Command → Type 0
@@ -106,19 +103,15 @@ abbrev pub IsRefusedBack : Command → Option NamedTexts → Refusal → Type 0
 IsRefusedBack c held refusal = (read : List ℕ) × IsTextUnder held c.file read × IsRefusedListing read refusal
 
 -- a refusal of the command's text
-abbrev pub IsRefusedIn : Mode → Command → Option NamedTexts → Refusal → Type 0
-IsRefusedIn mode.Run c held refusal = IsRefusedUnder c held refusal
-IsRefusedIn mode.List c held refusal = IsRefusedUnder c held refusal
-IsRefusedIn mode.Mean c held refusal = IsRefusedUnder c held refusal
-IsRefusedIn mode.Gen c held refusal = IsRefusedText c (made c.seed) refusal
-IsRefusedIn mode.Back c held refusal = IsRefusedBack c held refusal
-IsRefusedIn mode.Profile c held refusal = IsRefusedUnder c held refusal
-IsRefusedIn mode.Explain c held refusal = IsRefusedUnder c held refusal
+abbrev pub IsRefusedIn : Source → Command → Option NamedTexts → Refusal → Type 0
+IsRefusedIn source.File c held refusal = IsRefusedUnder c held refusal
+IsRefusedIn source.Generator c held refusal = IsRefusedText c (made c.seed) refusal
+IsRefusedIn source.Listing c held refusal = IsRefusedBack c held refusal
 
 -- the arguments are too long, or they fit and the text is refused
 abbrev pub IsRefusedCall : Command → Option NamedTexts → Refusal → Type 0
 IsRefusedCall c held refusal =
-    ((refusal ≡ args_too_long) × (most_args < length (args_of c.arguments))) ⊎ (ArgumentsFit c × IsRefusedIn c.mode c held refusal)
+    ((refusal ≡ args_too_long) × (most_args < length (args_of c.arguments))) ⊎ (ArgumentsFit c × IsRefusedIn (source_of c.mode) c held refusal)
 
 -- what is read is refused for one reason, and not where the unit of its expansion is accepted and its code has room
 abbrev pub TextsAreRefusedOnce : Type 0

@@ -4,8 +4,11 @@ use Rattle.lg_base.specs.Arguments.{args_of}
 use Rattle.lg_asm.specs.Assembled.{Assembled}
 use Rattle.lg_carry.specs.Agreement.{Agrees, shape_of_unit}
 use Rattle.lg_command.specs.Commands.{Command, IsCommand, AreNoCommand}
-use Rattle.lg_command.specs.declared.command.Mode.{Mode}
-use Rattle.lg_command.specs.declared.command.Mode.TheVariants as mode
+use Rattle.lg_command.specs.Plans.{action_of, source_of}
+use Rattle.lg_command.specs.declared.plan.Action.{Action}
+use Rattle.lg_command.specs.declared.plan.Action.TheVariants as action
+use Rattle.lg_command.specs.declared.plan.Source.{Source}
+use Rattle.lg_command.specs.declared.plan.Source.TheVariants as source
 use Rattle.lg_cpu.specs.Laws.{AreBytes}
 use Rattle.lg_cpu.specs.States.{CpuState}
 use Rattle.lg_cpu.specs.Steps.{Run}
@@ -27,66 +30,21 @@ use Rattle.lg_run.specs.Refused.{ArgumentsFit, IsRefusedCall, IsTextIn, IsTextUn
 use Rattle.lg_run.specs.Runs.{RunSays, MeanSays}
 use Rattle.lg_run.specs.declared.answer.Answer.{Answer}
 use Rattle.lg_run.specs.declared.answer.Answer.TheVariants.{Ended, Listed, Undefined, Refused, Usage, ReadFault, WriteFault, StepsOut, Fault, OutOfMemory}
-use Rattle.lg_run.specs.declared.answer.Done.{Done}
 
 -- what registers hold at first, and after a call of a host function
 abbrev pub trash_word : ℕ
 trash_word = 0x5A5A5A5A5A5A5A5A
 
--- ---- modes
--- the modes in which code runs
-abbrev pub RunsCode : Mode → Type 0
-RunsCode mode.Run = ⊤
-RunsCode mode.List = ⊥
-RunsCode mode.Mean = ⊥
-RunsCode mode.Gen = ⊤
-RunsCode mode.Back = ⊥
-RunsCode mode.Profile = ⊤
-RunsCode mode.Explain = ⊥
-
--- those in which the meaning runs
-abbrev pub RunsMeaning : Mode → Type 0
-RunsMeaning mode.Run = ⊥
-RunsMeaning mode.List = ⊥
-RunsMeaning mode.Mean = ⊤
-RunsMeaning mode.Gen = ⊥
-RunsMeaning mode.Back = ⊥
-RunsMeaning mode.Profile = ⊥
-RunsMeaning mode.Explain = ⊤
-
--- those in which code is made
-abbrev pub WantsCode : Mode → Type 0
-WantsCode mode.Run = ⊤
-WantsCode mode.List = ⊤
-WantsCode mode.Mean = ⊤
-WantsCode mode.Gen = ⊤
-WantsCode mode.Back = ⊥
-WantsCode mode.Profile = ⊤
-WantsCode mode.Explain = ⊤
-
--- those in which a file is read
-abbrev pub ReadsFile : Mode → Type 0
-ReadsFile mode.Run = ⊤
-ReadsFile mode.List = ⊤
-ReadsFile mode.Mean = ⊤
-ReadsFile mode.Gen = ⊥
-ReadsFile mode.Back = ⊤
-ReadsFile mode.Profile = ⊤
-ReadsFile mode.Explain = ⊤
+-- ---- what the mode asks for
+-- a file is read
+abbrev pub ReadsFile : Source → Type 0
+ReadsFile source.File = ⊤
+ReadsFile source.Generator = ⊥
+ReadsFile source.Listing = ⊤
 
 -- the words ask for no command that reads its file: where one is read in the mode, the arguments do not fit
 abbrev pub AskForNoFile : List (List ℕ) → Type 0
-AskForNoFile words = (c : Command) → IsCommand words c → ReadsFile c.mode → ArgumentsFit c → ⊥
-
--- to be expanded
-abbrev pub ExpandsFile : Mode → Type 0
-ExpandsFile mode.Run = ⊤
-ExpandsFile mode.List = ⊤
-ExpandsFile mode.Mean = ⊤
-ExpandsFile mode.Gen = ⊥
-ExpandsFile mode.Back = ⊥
-ExpandsFile mode.Profile = ⊤
-ExpandsFile mode.Explain = ⊤
+AskForNoFile words = (c : Command) → IsCommand words c → ReadsFile (source_of c.mode) → ArgumentsFit c → ⊥
 
 -- ---- code
 
@@ -95,7 +53,7 @@ ExpandsFile mode.Explain = ⊤
 -- it fits that size, and agrees with the unit's meaning over the addresses of its labels
 pub record IsCodeOf (c : Command) (held : Option NamedTexts) (code : Assembled) : Type 0 where
   pub text : List ℕ
-  pub given : IsTextIn c.mode c held text
+  pub given : IsTextIn (source_of c.mode) c held text
   pub unit : TextUnit
   pub reads : IsUnitOf text unit
   pub accepted : IsAccepted unit.nodes
@@ -129,22 +87,19 @@ ListSays code steps out Listed = (steps ≡ 0) × Took out (listing_of code)
 ListSays code steps out WriteFault = (steps ≡ 0) × TookPart out (listing_of code)
 ListSays code steps out answer = ⊥
 
--- what an answer says of what the mode asks for
-abbrev pub ModeSays : Mode → Command → Assembled → TextUnit → (steps : ℕ) → SinkChange → Answer → Type 0
-ModeSays mode.Run c code unit steps out answer = RunSays (code_run c code unit) c.steps steps out answer
-ModeSays mode.List c code unit steps out answer = ListSays code steps out answer
-ModeSays mode.Gen c code unit steps out answer = RunSays (code_run c code unit) c.steps steps out answer
-ModeSays mode.Mean c code unit steps out answer = MeanSays unit.nodes (code_meaning c code unit) c.steps steps out answer
-ModeSays mode.Back c code unit steps out answer = ⊥
-ModeSays mode.Profile c code unit steps out answer = RunSays (code_run c code unit) c.steps steps out answer
-ModeSays mode.Explain c code unit steps out answer = MeanSays unit.nodes (code_meaning c code unit) c.steps steps out answer
+-- what an answer says of what is done with code: it runs, it is listed, or its meaning runs
+abbrev pub ActionSays : Action → Command → Assembled → TextUnit → (steps : ℕ) → SinkChange → Answer → Type 0
+ActionSays action.Run c code unit steps out answer = RunSays (code_run c code unit) c.steps steps out answer
+ActionSays action.List c code unit steps out answer = ListSays code steps out answer
+ActionSays action.Mean c code unit steps out answer = MeanSays unit.nodes (code_meaning c code unit) c.steps steps out answer
+ActionSays action.ReadBack c code unit steps out answer = ⊥
 
 -- there is code, and it, or its meaning, ran so, or was listed so
 pub record Ran (c : Command) (held : Option NamedTexts) (code : Option Assembled) (steps : ℕ) (out : SinkChange) (answer : Answer) : Type 0 where
   pub ran : Assembled
   pub is : code ≡ Some ran
   pub made : IsCodeOf c held ran
-  pub says : ModeSays c.mode c ran made.unit steps out answer
+  pub says : ActionSays (action_of c.mode) c ran made.unit steps out answer
 
 -- ---- listings that are read back
 
@@ -162,9 +117,9 @@ BytesSay bytes out Listed = Took out bytes
 BytesSay bytes out WriteFault = TookPart out bytes
 BytesSay bytes out answer = ⊥
 
--- in the mode `back` nothing was assembled and nothing ran; the text is a listing, and its bytes were written so
+-- in a mode that reads a listing nothing was assembled and nothing ran; the text is a listing, and its bytes were written so
 pub record WroteBack (c : Command) (held : Option NamedTexts) (code : Option Assembled) (steps : ℕ) (out : SinkChange) (answer : Answer) : Type 0 where
-  pub asked : c.mode ≡ mode.Back
+  pub asked : source_of c.mode ≡ source.Listing
   pub fits : ArgumentsFit c
   pub none : code ≡ None
   pub steps_none : steps ≡ 0
@@ -192,7 +147,7 @@ AnswerSays c held code steps out (Fault kind pc) = Ran c held code steps out (Fa
 AnswerSays c held code steps out (Undefined line) = Ran c held code steps out (Undefined line)
 AnswerSays c held code steps out WriteFault = Ran c held code steps out WriteFault ⊎ WroteBack c held code steps out WriteFault
 AnswerSays c held code steps out (Refused refusal) = IsUntouched code steps out × IsRefusedCall c held refusal
-AnswerSays c held code steps out ReadFault = IsUntouched code steps out × ReadsFile c.mode × ArgumentsFit c
+AnswerSays c held code steps out ReadFault = IsUntouched code steps out × ReadsFile (source_of c.mode) × ArgumentsFit c
 AnswerSays c held code steps out OutOfMemory = IsStill steps out × CodeSays c held code
 AnswerSays c held code steps out Usage = ⊥
 AnswerSays c held code steps out Listed = Ran c held code steps out Listed ⊎ WroteBack c held code steps out Listed
@@ -219,19 +174,15 @@ AskedSays words None texts out code steps answer = IsUntouched code steps out ×
 AskedSays words (Some c) texts out code steps answer = IsCommand words c × WorkSays c texts out code steps answer
 
 -- the name of the text in the line of a refusal
-abbrev pub name_in : Mode → Command → List ℕ
-name_in mode.Run c = c.file
-name_in mode.List c = c.file
-name_in mode.Mean c = c.file
-name_in mode.Gen c = codes "gen"
-name_in mode.Back c = c.file
-name_in mode.Profile c = c.file
-name_in mode.Explain c = c.file
+abbrev pub name_in : Source → Command → List ℕ
+name_in source.File c = c.file
+name_in source.Generator c = codes "gen"
+name_in source.Listing c = c.file
 
 -- the lines on err: the statistics, and the line of the answer
 abbrev pub lines_of : Option Command → Option Assembled → (steps : ℕ) → Answer → List ℕ
 lines_of None code steps answer = line_of [] steps answer
-lines_of (Some c) code steps answer = stats_of c.stats code steps answer ++ line_of (name_in c.mode c) steps answer
+lines_of (Some c) code steps answer = stats_of c.stats code steps answer ++ line_of (name_in (source_of c.mode) c) steps answer
 
 -- the lines of the inner answer are on err and that is the answer, or a part of them is there and the answer is a write fault
 abbrev pub ReportSays : (lines : List ℕ) → SinkChange → (inner outer : Answer) → Type 0

@@ -1,8 +1,9 @@
-// What is done in the mode `back`.
+// What is done with a listing that is read back.
 
 ghost use Rattle.std.specs.Prelude.{◌≡◌, ◌≤◌, length, None};
 ghost use Rattle.lg_command.specs.Commands.{shown};
-ghost use Rattle.lg_command.specs.declared.command.Mode.TheVariants as modes;
+ghost use Rattle.lg_command.specs.Plans.{source_of};
+ghost use Rattle.lg_command.specs.declared.plan.Source.TheVariants as sources;
 ghost use Rattle.lg_io.specs.Readings.{IsReadOnce};
 ghost use Rattle.lg_io.specs.SinkChanges.{on_sink};
 ghost use Rattle.lg_run.specs.Changes.{TellsWrites, on_texts};
@@ -34,7 +35,7 @@ fn write_bytes<O: Sink>(bytes: &[u8], out: &mut O) -> Done
 
 // Reads a text as a listing, and writes the bytes that it is of.
 fn do_listing<O: Sink>(alloc: Global, command: &Command<'_>, read: &[u8], out: &mut O) -> Done
-    requires mode { command.now.mode ≡ modes.Back }
+    requires listing { source_of command.now.mode ≡ sources.Listing }
     requires fits { ArgumentsFit (shown command.now) }
     requires short { length read.now ≤ most_text }
     ensures says { ReadDone (shown command.now) read.now (on_sink O.taken O.faults out.old out.new) result }
@@ -54,7 +55,7 @@ pub fn do_back<T: Texts, O: Sink>(
     texts: &mut T,
     out: &mut O,
 ) -> Done
-    requires mode { command.now.mode ≡ modes.Back }
+    requires listing { source_of command.now.mode ≡ sources.Listing }
     requires fits { ArgumentsFit (shown command.now) }
     ensures says { WorkDone (shown command.now) (on_texts T.held T.faults T.sure texts.old texts.new) (on_sink O.taken O.faults out.old out.new) result }
     ensures once { IsReadOnce (T.reading texts.old) (T.reading texts.new) }

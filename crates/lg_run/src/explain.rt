@@ -4,7 +4,9 @@ ghost use Rattle.std.specs.Prelude.{◌≡◌, ◌≤◌, true, Ok, None, length
 ghost use Rattle.lg_base.specs.Arguments.{args_of, most_args, texts_of};
 ghost use Rattle.lg_carry.specs.Agreement.{Agrees};
 ghost use Rattle.lg_command.specs.Commands.{IsInRange, shown};
-ghost use Rattle.lg_command.specs.declared.command.Mode.TheVariants as modes;
+ghost use Rattle.lg_command.specs.Plans.{report_of};
+ghost use Rattle.lg_command.specs.declared.plan.Action.TheVariants as actions;
+ghost use Rattle.lg_command.specs.declared.plan.Report.TheVariants as reports;
 ghost use Rattle.lg_io.specs.SinkChanges.{WroteTo, on_sink};
 ghost use Rattle.lg_mean.specs.Machines.{state_of};
 ghost use Rattle.lg_mean.specs.Programs.{IsTableOf};
@@ -27,7 +29,7 @@ use crate::run::Ran;
 use crate::work::not_run;
 use lg_asm::Code;
 use lg_base::{ArgImage, OutOfMemory, Refusal, RefusalKind};
-use lg_command::{Command, Mode};
+use lg_command::{Command, Report};
 use lg_explain::line::Shown;
 use lg_explain::say::{write_refused, write_undefined};
 use lg_explain::stop::{StuckAt, stuck_at};
@@ -93,14 +95,14 @@ pub fn run_explain<O: Sink>(
     code: &Code,
     out: &mut O,
 ) -> Profiled
-    requires explain { command.now.mode ≡ modes.Explain }
+    requires explain { report_of command.now.mode ≡ reports.Explanation }
     requires range { IsInRange command.now }
     requires args { args.now ≡ args_of (texts_of command.now.arguments.items) }
     requires args_size { length args.now ≤ most_args }
     requires whole { IsWhole text.now.unit }
     requires checked { IsChecked text.now.unit.nodes (Ok text.now.shape) }
     requires agrees { Agrees code.now.bytes code.now.labels text.now.unit command.now.target }
-    ensures says { RanSays modes.Explain (shown command.now) code.now text.now.unit (on_sink O.taken O.faults out.old out.new) result.ran }
+    ensures says { RanSays actions.Mean (shown command.now) code.now text.now.unit (on_sink O.taken O.faults out.old out.new) result.ran }
     ensures writes { TellsWrites result.ran.answer (on_sink O.taken O.faults out.old out.new) }
     ensures told { RanTells (shown command.now) code.now text.now.unit result }
 {
@@ -113,19 +115,19 @@ pub fn run_explain<O: Sink>(
 
 // ---- the word
 
-/// Returns the word that an answer blames in what was read, which has at most 16,777,216 bytes, where answers are explained in the mode. Memory is requested
+/// Returns the word that an answer blames in what was read, which has at most 16,777,216 bytes, where answers are explained. Memory is requested
 /// for it only where the answer is a refusal.
 pub fn blamed_word_of(
     alloc: Global,
-    mode: Mode,
+    report: Report,
     read: &[u8],
     answer: Answer,
 ) -> Result<Option<Shown>, OutOfMemory>
     requires { length read.now ≤ most_text }
-    ensures word { IfOk result (λ word. word ≡ word_explained mode read.now answer) }
+    ensures word { IfOk result (λ word. word ≡ word_explained report read.now answer) }
     ensures refused { OnErr result (is_refused answer ≡ true) }
 {
-    if !is_explain(mode) {
+    if !is_explain(report) {
         return Ok(None);
     }
     match answer {
@@ -214,23 +216,23 @@ fn write_read<E: Sink>(
     }
 }
 
-// Returns whether answers are explained in a mode.
-fn is_explain(mode: Mode) -> bool
-    ensures { result ≡ is_explain mode }
+// Returns whether answers are explained.
+fn is_explain(report: Report) -> bool
+    ensures { result ≡ is_explain report }
 {
-    matches!(mode, Mode::Explain)
+    matches!(report, Report::Explanation)
 }
 
 /// Writes the lines that explain what was done for a command, where its mode asks for that.
 pub fn write_explained<E: Sink>(
-    mode: Mode,
+    report: Report,
     file: &str,
     worked: &Worked,
     err: &mut E,
 ) -> Result<(), SinkFault>
-    ensures { WroteTo (on_sink E.taken E.faults err.old err.new) result (explained_of mode file.now worked.now) }
+    ensures { WroteTo (on_sink E.taken E.faults err.old err.new) result (explained_of report file.now worked.now) }
 {
-    if is_explain(mode) {
+    if is_explain(report) {
         write_read(
             file,
             &worked.read,

@@ -1,7 +1,7 @@
 // Writing the listing of code.
 
 ghost use Rattle.lg_command.specs.Commands.{shown};
-ghost use Rattle.lg_command.specs.declared.command.Mode.TheVariants as modes;
+ghost use Rattle.lg_command.specs.declared.plan.Action.TheVariants as actions;
 ghost use Rattle.lg_io.specs.SinkChanges.{on_sink};
 ghost use Rattle.lg_run.specs.Changes.{TellsWrites};
 ghost use Rattle.lg_run.specs.Work.{RanSays};
@@ -16,7 +16,7 @@ use lg_list::list;
 
 /// Writes the listing of the code of a text, in pieces and without memory. Nothing runs.
 pub fn list_code<O: Sink>(command: &Command<'_>, text: &Accepted, code: &Code, out: &mut O) -> Ran
-    ensures says { RanSays modes.List (shown command.now) code.now text.now.unit (on_sink O.taken O.faults out.old out.new) result }
+    ensures says { RanSays actions.List (shown command.now) code.now text.now.unit (on_sink O.taken O.faults out.old out.new) result }
     ensures writes { TellsWrites result.answer (on_sink O.taken O.faults out.old out.new) }
 {
     let (_, _) = (command, text);

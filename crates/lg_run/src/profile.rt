@@ -4,7 +4,9 @@ ghost use Rattle.std.specs.Prelude.{◌≡◌, ◌<◌, ◌≤◌, ◌-◌, ◌^
 ghost use Rattle.lg_base.specs.Arguments.{args_of, most_args, texts_of};
 ghost use Rattle.lg_carry.specs.Agreement.{Agrees};
 ghost use Rattle.lg_command.specs.Commands.{IsInRange, shown as shown_command};
-ghost use Rattle.lg_command.specs.declared.command.Mode.TheVariants as modes;
+ghost use Rattle.lg_command.specs.Plans.{report_of};
+ghost use Rattle.lg_command.specs.declared.plan.Action.TheVariants as actions;
+ghost use Rattle.lg_command.specs.declared.plan.Report.TheVariants as reports;
 ghost use Rattle.lg_cpu.specs.Machines.{shown, shown_at_start};
 ghost use Rattle.lg_cpu.specs.Series.{run_from};
 ghost use Rattle.lg_cpu.specs.declared.answer.CpuStep.{CpuStep};
@@ -43,9 +45,9 @@ use std::alloc::Global;
 pub struct Profiled {
     /// What the run came to.
     pub ran: Ran,
-    /// The numbers of the lines, in the mode `profile`.
+    /// The numbers of the lines, where the mode asks for a profile.
     pub tally: Option<Tally>,
-    /// Where a step of the meaning is undefined, in the mode `explain`.
+    /// Where a step of the meaning is undefined, where the mode asks for an explanation.
     pub stuck: Option<StuckAt>,
 }
 
@@ -54,13 +56,13 @@ pub struct Profiled {
 pub struct Worked {
     /// What was done.
     pub done: Done,
-    /// The numbers of the lines, in the mode `profile`.
+    /// The numbers of the lines, where the mode asks for a profile.
     pub tally: Option<Tally>,
-    /// Where a step of the meaning is undefined, in the mode `explain`.
+    /// Where a step of the meaning is undefined, where the mode asks for an explanation.
     pub stuck: Option<StuckAt>,
     /// What was read and expanded, where that was done.
     pub read: Option<Vec<u8>>,
-    /// The word that a refusal of it blames, in the mode `explain`.
+    /// The word that a refusal of it blames, where the mode asks for an explanation.
     pub word: Option<Shown>,
 }
 
@@ -269,7 +271,7 @@ pub fn run_profile<O: Sink>(
     code: &Code,
     out: &mut O,
 ) -> Profiled
-    requires profile { command.now.mode ≡ modes.Profile }
+    requires profile { report_of command.now.mode ≡ reports.Profile }
     requires range { IsInRange command.now }
     requires args { args.now ≡ args_of (texts_of command.now.arguments.items) }
     requires args_size { length args.now ≤ most_args }
@@ -279,7 +281,7 @@ pub fn run_profile<O: Sink>(
     requires rewritten { AreFinal text.now.unit.nodes code.now.nodes code.now.shape code.now.origin }
     requires size { length code.now.bytes ≤ command.now.size }
     requires agrees { Agrees code.now.bytes code.now.labels text.now.unit command.now.target }
-    ensures says { RanSays modes.Profile (shown_command command.now) code.now text.now.unit (on_sink O.taken O.faults out.old out.new) result.ran }
+    ensures says { RanSays actions.Run (shown_command command.now) code.now text.now.unit (on_sink O.taken O.faults out.old out.new) result.ran }
     ensures writes { TellsWrites result.ran.answer (on_sink O.taken O.faults out.old out.new) }
     ensures told { RanTells (shown_command command.now) code.now text.now.unit result }
 {

@@ -3,6 +3,7 @@
 ghost use Rattle.std.specs.Prelude.{◌≡◌, [], ◌++◌, Some};
 ghost use Rattle.lg_base.specs.Arguments.{texts_of};
 ghost use Rattle.lg_command.specs.Commands.{shown};
+ghost use Rattle.lg_command.specs.Plans.{report_of, source_of};
 ghost use Rattle.lg_run.specs.Causes.{Causes};
 ghost use Rattle.lg_io.specs.Readings.{IsReadOnce};
 ghost use Rattle.lg_io.specs.SinkChanges.{WroteTo, on_sink};
@@ -19,19 +20,17 @@ use crate::explain::write_explained;
 use crate::lines::{write_line, write_lines};
 use crate::profile::{Worked, write_table};
 use crate::work::{without_code, work};
-use lg_command::{Command, Mode, WordsStop, read_words};
+use lg_command::{Command, Source, WordsStop, read_words};
 use lg_io::{Sink, SinkFault, Texts};
 use std::alloc::Global;
 
 // Returns the name of a command's text in the line of a refusal.
 fn name_in<'a>(command: &Command<'a>) -> &'a str
-    ensures { result.now ≡ name_in command.now.mode (shown command.now) }
+    ensures { result.now ≡ name_in (source_of command.now.mode) (shown command.now) }
 {
-    match command.mode {
-        Mode::Gen => "gen",
-        Mode::Run | Mode::List | Mode::Mean | Mode::Back | Mode::Profile | Mode::Explain => {
-            command.file
-        }
+    match command.mode.plan().source {
+        Source::Generator => "gen",
+        Source::File | Source::Listing => command.file,
     }
 }
 
@@ -63,11 +62,11 @@ fn write_answer<E: Sink>(command: &Command<'_>, done: &Done, err: &mut E) -> Res
 // Writes them, and after them what explains the answer.
 fn write_told<E: Sink>(command: &Command<'_>, worked: &Worked, err: &mut E) -> Result<(), SinkFault>
     ensures { let lines = lines_of (Some (shown command.now)) worked.now.done.code worked.now.done.steps worked.now.done.answer in
-        let explained = explained_of command.now.mode command.now.file.now worked.now in
+        let explained = explained_of (report_of command.now.mode) command.now.file.now worked.now in
         WroteTo (on_sink E.taken E.faults err.old err.new) result (lines ++ explained) }
 {
     match write_answer(command, &worked.done, err) {
-        Ok(()) => write_explained(command.mode, command.file, worked, err),
+        Ok(()) => write_explained(command.mode.plan().report, command.file, worked, err),
         Err(fault) => Err(fault),
     }
 }
@@ -79,7 +78,7 @@ fn write_report<E: Sink>(
     err: &mut E,
 ) -> Result<(), SinkFault>
     ensures { let lines = lines_of (Some (shown command.now)) worked.now.done.code worked.now.done.steps worked.now.done.answer in
-        let explained = explained_of command.now.mode command.now.file.now worked.now in
+        let explained = explained_of (report_of command.now.mode) command.now.file.now worked.now in
         WroteTo (on_sink E.taken E.faults err.old err.new) result (table_of worked.now.tally ++ (lines ++ explained)) }
 {
     match write_table(&worked.tally, err) {
@@ -92,7 +91,7 @@ fn write_report<E: Sink>(
 /// is a write fault.
 pub fn report<E: Sink>(command: &Command<'_>, worked: &Worked, err: &mut E) -> Answer
     ensures { let lines = lines_of (Some (shown command.now)) worked.now.done.code worked.now.done.steps worked.now.done.answer in
-        let explained = explained_of command.now.mode command.now.file.now worked.now in
+        let explained = explained_of (report_of command.now.mode) command.now.file.now worked.now in
         ReportSays (table_of worked.now.tally ++ (lines ++ explained)) (on_sink E.taken E.faults err.old err.new) worked.now.done.answer result }
 {
     match write_report(command, worked, err) {

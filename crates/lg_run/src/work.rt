@@ -6,7 +6,9 @@ ghost use Rattle.lg_base.specs.declared.refusal.Refusal.{Refusal};
 ghost use Rattle.lg_base.specs.declared.refusal.Stop.{Stop};
 ghost use Rattle.lg_carry.specs.Agreement.{Agrees};
 ghost use Rattle.lg_command.specs.Commands.{IsInRange, shown};
-ghost use Rattle.lg_command.specs.declared.command.Mode.TheVariants as modes;
+ghost use Rattle.lg_command.specs.Plans.{action_of, source_of};
+ghost use Rattle.lg_command.specs.declared.plan.Action.TheVariants as actions;
+ghost use Rattle.lg_command.specs.declared.plan.Source.TheVariants as sources;
 ghost use Rattle.lg_cpu.specs.Laws.{AreBytes};
 ghost use Rattle.lg_node.specs.Labels.{taken_labels};
 ghost use Rattle.lg_node.specs.Shapes.{IsChecked};
@@ -21,7 +23,7 @@ ghost use Rattle.lg_run.specs.ProfileStarts.{RanTells, ReadTold, TextTells, Unit
 ghost use Rattle.lg_run.specs.Profiles.{is_run_end};
 ghost use Rattle.lg_run.specs.Reads.{ReadsFewOf};
 ghost use Rattle.lg_run.specs.Refused.{ArgumentsFit, IsRefusedAccepted, most_text};
-ghost use Rattle.lg_run.specs.Says.{ExpandsFile, ReadsFile, WantsCode};
+ghost use Rattle.lg_run.specs.Says.{ReadsFile};
 ghost use Rattle.lg_run.specs.Work.{RanSays, ReadDone, TellsNoRead, TextDone, UnitDone, WorkDone};
 
 use crate::answer::{Answer, Done};
@@ -30,13 +32,13 @@ use crate::explain::{blamed_word_of, run_explain};
 use crate::listing::list_code;
 use crate::made;
 use crate::mean::run_meaning;
-use crate::profile::{Profiled, Worked, run_profile, untold};
+use crate::profile::{Profiled, Worked, run_profile, untold, untold_run};
 use crate::reading::{Accepted, read_unit};
 use crate::run::{Ran, run};
 use crate::source::{ReadStop, read_text};
 use lg_asm::{Code, assemble};
 use lg_base::{ArgImage, OutOfMemory, Refusal, RefusalKind, Stop, args_image};
-use lg_command::{Command, Mode};
+use lg_command::{Action, Command, Report, Source};
 use lg_cpu::Cpu;
 use lg_explain::line::Shown;
 use lg_io::{Sink, Texts};
@@ -119,7 +121,7 @@ fn run_code<O: Sink>(
     requires whole { IsWhole text.now.unit }
     requires target { code.now.target ≡ command.now.target }
     requires size { length code.now.bytes ≤ command.now.size }
-    ensures says { RanSays modes.Run (shown command.now) code.now text.now.unit (on_sink O.taken O.faults out.old out.new) result }
+    ensures says { RanSays actions.Run (shown command.now) code.now text.now.unit (on_sink O.taken O.faults out.old out.new) result }
     ensures writes { TellsWrites result.answer (on_sink O.taken O.faults out.old out.new) }
 {
     match Cpu::new(
@@ -150,7 +152,7 @@ fn run_mean<O: Sink>(
     requires whole { IsWhole text.now.unit }
     requires checked { IsChecked text.now.unit.nodes (Ok text.now.shape) }
     requires agrees { Agrees code.now.bytes code.now.labels text.now.unit command.now.target }
-    ensures says { RanSays modes.Mean (shown command.now) code.now text.now.unit (on_sink O.taken O.faults out.old out.new) result }
+    ensures says { RanSays actions.Mean (shown command.now) code.now text.now.unit (on_sink O.taken O.faults out.old out.new) result }
     ensures writes { TellsWrites result.answer (on_sink O.taken O.faults out.old out.new) }
 {
     let _ = text.unit.nodes.labels();
@@ -160,7 +162,36 @@ fn run_mean<O: Sink>(
     }
 }
 
-// Runs code, or in the modes `mean` and `explain` its meaning, or in the mode `list` writes its listing.
+// Runs code, or its meaning, or writes its listing, and reports nothing besides.
+fn act<O: Sink>(
+    alloc: Global,
+    command: &Command<'_>,
+    args: &ArgImage,
+    text: &Accepted,
+    code: &Code,
+    out: &mut O,
+) -> Ran
+    requires range { IsInRange command.now }
+    requires args { args.now ≡ args_of (texts_of command.now.arguments.items) }
+    requires args_size { length args.now ≤ most_args }
+    requires whole { IsWhole text.now.unit }
+    requires checked { IsChecked text.now.unit.nodes (Ok text.now.shape) }
+    requires target { code.now.target ≡ command.now.target }
+    requires size { length code.now.bytes ≤ command.now.size }
+    requires agrees { Agrees code.now.bytes code.now.labels text.now.unit command.now.target }
+    requires wanted { action_of command.now.mode ≡ actions.ReadBack → ⊥ }
+    ensures says { RanSays (action_of command.now.mode) (shown command.now) code.now text.now.unit (on_sink O.taken O.faults out.old out.new) result }
+    ensures writes { TellsWrites result.answer (on_sink O.taken O.faults out.old out.new) }
+{
+    match command.mode.plan().action {
+        Action::Run => run_code(alloc, command, args, text, code, out),
+        Action::List => list_code(command, text, code, out),
+        Action::Mean => run_mean(alloc, command, args, text, code, out),
+        Action::ReadBack => unreachable!(),
+    }
+}
+
+// Does what is asked for with code, and reports what is asked for besides.
 fn run_mode<O: Sink>(
     alloc: Global,
     command: &Command<'_>,
@@ -178,30 +209,15 @@ fn run_mode<O: Sink>(
     requires rewritten { AreFinal text.now.unit.nodes code.now.nodes code.now.shape code.now.origin }
     requires size { length code.now.bytes ≤ command.now.size }
     requires agrees { Agrees code.now.bytes code.now.labels text.now.unit command.now.target }
-    requires wanted { WantsCode command.now.mode }
-    ensures says { RanSays command.now.mode (shown command.now) code.now text.now.unit (on_sink O.taken O.faults out.old out.new) result.ran }
+    requires wanted { action_of command.now.mode ≡ actions.ReadBack → ⊥ }
+    ensures says { RanSays (action_of command.now.mode) (shown command.now) code.now text.now.unit (on_sink O.taken O.faults out.old out.new) result.ran }
     ensures writes { TellsWrites result.ran.answer (on_sink O.taken O.faults out.old out.new) }
     ensures told { RanTells (shown command.now) code.now text.now.unit result }
 {
-    match command.mode {
-        Mode::Run | Mode::Gen => Profiled {
-            ran: run_code(alloc, command, args, text, code, out),
-            tally: None,
-            stuck: None,
-        },
-        Mode::List => Profiled {
-            ran: list_code(command, text, code, out),
-            tally: None,
-            stuck: None,
-        },
-        Mode::Mean => Profiled {
-            ran: run_mean(alloc, command, args, text, code, out),
-            tally: None,
-            stuck: None,
-        },
-        Mode::Back => unreachable!(),
-        Mode::Profile => run_profile(alloc, command, args, text, code, out),
-        Mode::Explain => run_explain(alloc, command, args, text, code, out),
+    match command.mode.plan().report {
+        Report::Nothing => untold_run(act(alloc, command, args, text, code, out)),
+        Report::Profile => run_profile(alloc, command, args, text, code, out),
+        Report::Explanation => run_explain(alloc, command, args, text, code, out),
     }
 }
 
@@ -225,7 +241,7 @@ fn do_unit<O: Sink>(
     requires args_size { length args.now ≤ most_args }
     requires whole { IsWhole text.now.unit }
     requires checked { IsChecked text.now.unit.nodes (Ok text.now.shape) }
-    requires wanted { WantsCode command.now.mode }
+    requires wanted { action_of command.now.mode ≡ actions.ReadBack → ⊥ }
     ensures says { UnitDone (shown command.now) text.now.unit (on_sink O.taken O.faults out.old out.new) result.done }
     ensures told { UnitTells (shown command.now) text.now.unit result }
     ensures writes { TellsWrites result.done.answer (on_sink O.taken O.faults out.old out.new) }
@@ -263,7 +279,7 @@ fn do_text<O: Sink>(
     requires args { args.now ≡ args_of (texts_of command.now.arguments.items) }
     requires args_size { length args.now ≤ most_args }
     requires short { length text.now ≤ most_text }
-    requires wanted { WantsCode command.now.mode }
+    requires wanted { action_of command.now.mode ≡ actions.ReadBack → ⊥ }
     ensures says { TextDone (shown command.now) text.now (on_sink O.taken O.faults out.old out.new) result.done }
     ensures told { TextTells (shown command.now) text.now result }
     ensures writes { TellsWrites result.done.answer (on_sink O.taken O.faults out.old out.new) }
@@ -283,7 +299,7 @@ fn do_read<O: Sink>(
     read: &[u8],
     out: &mut O,
 ) -> Worked
-    requires file { ExpandsFile command.now.mode }
+    requires file { source_of command.now.mode ≡ sources.File }
     requires range { IsInRange command.now }
     requires args { args.now ≡ args_of (texts_of command.now.arguments.items) }
     requires args_size { length args.now ≤ most_args }
@@ -330,7 +346,7 @@ fn do_kept<O: Sink>(
     read: Vec<u8>,
     out: &mut O,
 ) -> Worked
-    requires file { ExpandsFile command.now.mode }
+    requires file { source_of command.now.mode ≡ sources.File }
     requires range { IsInRange command.now }
     requires args { args.now ≡ args_of (texts_of command.now.arguments.items) }
     requires args_size { length args.now ≤ most_args }
@@ -342,7 +358,7 @@ fn do_kept<O: Sink>(
     ensures reads { TellsNoRead result.done.answer }
 {
     let worked = do_read(alloc, command, args, &read, out);
-    match blamed_word_of(alloc, command.mode, &read, worked.done.answer) {
+    match blamed_word_of(alloc, command.mode.plan().report, &read, worked.done.answer) {
         Ok(word) => keep(worked, read, word),
         Err(OutOfMemory) => untold(without_code(Answer::OutOfMemory)),
     }
@@ -350,10 +366,10 @@ fn do_kept<O: Sink>(
 
 // A file that is expanded is read, and the arguments fit.
 fn see_file(command: &Command<'_>, args: &ArgImage)
-    requires file { ExpandsFile command.now.mode }
+    requires file { source_of command.now.mode ≡ sources.File }
     requires args { args.now ≡ args_of (texts_of command.now.arguments.items) }
     requires args_size { length args.now ≤ most_args }
-    ensures { (ReadsFile command.now.mode → ArgumentsFit (shown command.now) → ⊥) → ⊥ }
+    ensures { (ReadsFile (source_of command.now.mode) → ArgumentsFit (shown command.now) → ⊥) → ⊥ }
 {
     let (_, _) = (command, args);
 }
@@ -366,7 +382,7 @@ fn do_file<T: Texts, O: Sink>(
     texts: &mut T,
     out: &mut O,
 ) -> Worked
-    requires file { ExpandsFile command.now.mode }
+    requires file { source_of command.now.mode ≡ sources.File }
     requires range { IsInRange command.now }
     requires args { args.now ≡ args_of (texts_of command.now.arguments.items) }
     requires args_size { length args.now ≤ most_args }
@@ -374,7 +390,7 @@ fn do_file<T: Texts, O: Sink>(
     ensures told { WorkTells (shown command.now) (T.held texts.old) result }
     ensures explains { WorkExplains (shown command.now) (T.held texts.old) result }
     ensures once { IsReadOnce (T.reading texts.old) (T.reading texts.new) }
-    ensures unread { (ReadsFile command.now.mode → ArgumentsFit (shown command.now) → ⊥) → T.reading texts.new ≡ T.reading texts.old }
+    ensures unread { (ReadsFile (source_of command.now.mode) → ArgumentsFit (shown command.now) → ⊥) → T.reading texts.new ≡ T.reading texts.old }
     ensures few { ReadsFewOf (T.held texts.old) command.now.file.now (T.left texts.old) (T.left texts.new) }
 {
     see_file(command, args);
@@ -390,7 +406,7 @@ fn do_file<T: Texts, O: Sink>(
 
 // Makes the generator's text, and does what is asked for.
 fn do_made<O: Sink>(alloc: Global, command: &Command<'_>, args: &ArgImage, out: &mut O) -> Worked
-    requires made { command.now.mode ≡ modes.Gen }
+    requires made { source_of command.now.mode ≡ sources.Generator }
     requires range { IsInRange command.now }
     requires args { args.now ≡ args_of (texts_of command.now.arguments.items) }
     requires args_size { length args.now ≤ most_args }
@@ -404,7 +420,7 @@ fn do_made<O: Sink>(alloc: Global, command: &Command<'_>, args: &ArgImage, out: 
     }
 }
 
-/// Reads the text of a command's file, or makes the generator's, and does what is asked for; or reads the file as a listing (`--mode back`). Words of
+/// Reads the text of a command's file, or makes the generator's, and does what is asked for; or reads the file as a listing. Words of
 /// arguments that are too long are refused first.
 pub fn work<T: Texts, O: Sink>(
     alloc: Global,
@@ -417,18 +433,16 @@ pub fn work<T: Texts, O: Sink>(
     ensures told { WorkTells (shown command.now) (T.held texts.old) result }
     ensures explains { WorkExplains (shown command.now) (T.held texts.old) result }
     ensures once { IsReadOnce (T.reading texts.old) (T.reading texts.new) }
-    ensures unread { (ReadsFile command.now.mode → ArgumentsFit (shown command.now) → ⊥) → T.reading texts.new ≡ T.reading texts.old }
+    ensures unread { (ReadsFile (source_of command.now.mode) → ArgumentsFit (shown command.now) → ⊥) → T.reading texts.new ≡ T.reading texts.old }
     ensures few { ReadsFewOf (T.held texts.old) command.now.file.now (T.left texts.old) (T.left texts.new) }
 {
     let args = match args_image(alloc, &command.arguments) {
         Ok(args) => args,
         Err(stop) => return untold(without_code(stopped(stop))),
     };
-    match command.mode {
-        Mode::Gen => do_made(alloc, command, &args, out),
-        Mode::Back => untold(do_back(alloc, command, texts, out)),
-        Mode::Run | Mode::List | Mode::Mean | Mode::Profile | Mode::Explain => do_file(
-            alloc, command, &args, texts, out,
-        ),
+    match command.mode.plan().source {
+        Source::File => do_file(alloc, command, &args, texts, out),
+        Source::Generator => do_made(alloc, command, &args, out),
+        Source::Listing => untold(do_back(alloc, command, texts, out)),
     }
 }

@@ -16,6 +16,7 @@ pub mod NodeFitLemmas
 pub mod NodeLemmas
 pub mod OfControl
 pub mod OperandLemmas
+pub mod PartLemmas
 pub mod PlaceLemmas
 pub mod ReachLemmas
 pub mod SelectionLemmas

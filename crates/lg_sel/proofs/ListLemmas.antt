@@ -29,10 +29,6 @@ module _ {L I : Type 0} (H : Holes L I) where
   words_append [] ys = sym (zero-add (words_in H ys))
   words_append (x ∷ xs) ys = ap (λ n. H.words x + n) (words_append xs ys) ∙ sym (add_assoc (H.words x) (words_in H xs) (words_in H ys))
 
-  pub blanks-append : (xs ys : List L) → blanks H (xs ++ ys) ≡ blanks H xs ++ blanks H ys
-  blanks-append [] ys = refl
-  blanks-append (x ∷ xs) ys = ap (λ l. H.blank x ++ l) (blanks-append xs ys) ∙ sym (append_assoc (H.blank x) (blanks H xs) (blanks H ys))
-
   pub settled-append : (to : ℕ → ℕ) (p : ℕ) (xs ys : List L) → settled H to p (xs ++ ys) ≡ settled H to p xs ++ settled H to (p + length (blanks H xs)) ys
   settled-append to p [] ys = let z : p ≡ p + 0 = omega arith in ap (λ a. settled H to a ys) z
   settled-append to p (x ∷ xs) ys =

@@ -9,14 +9,12 @@ use Rattle.lg_carry.specs.NodeBlocks.{IsNodeBlock}
 use Rattle.lg_carry.specs.Passages.{IsNodeCode}
 use Rattle.lg_carry.specs.Rows.{Rows}
 use Rattle.lg_sel.specs.Holes.{Holes, words_in, blanks, settled, AreHoles}
-use Rattle.lg_sel.specs.NodeItems.{InstructionsStay, AreOfNode}
+use Rattle.lg_sel.specs.NodeItems.{InstructionsStay, ItemsAreNodeBlocks, ItemsAreNodeCode}
 use Rattle.lg_sel.proofs.HoleLemmas as holes
 
 module _ {L Q I : Type 0} (H : Holes L I) (R : Rows Q I) (fits : I → Type 0) (stays : Bool → I → Type 0) (is_item : L → Type 0) (ok : AreHoles H R.spelling fits is_item)
     (stay : InstructionsStay R stays) where
-  pub items-are-node-code : (c : Code) (i : ℕ) (items : List L) → AreOfNode H R fits stays is_item c i items
-      → (leaps_at (slice_get c.nodes.nodes i) ≡ true → 0 < words_in H items)
-      → IsNodeCode R fits c i (settled H (slice_index c.addresses) (c.place i) items)
+  pub items-are-node-code : ItemsAreNodeCode H R fits stays is_item
   items-are-node-code c i items a some =
       let to : ℕ → ℕ = slice_index c.addresses in
       let is : List I = settled H to (c.place i) items in
@@ -36,8 +34,5 @@ module _ {L Q I : Type 0} (H : Holes L I) (R : Rows Q I) (fits : I → Type 0) (
         outside = λ k d lt. stay (moves_at R.processor.target (slice_get c.nodes.nodes i)) (slice_index_or is k d) (a.stay k d lt);
       }
 
-  pub items-are-node-blocks : (c : Code) (i : ℕ) (items : List L) → AreOfNode H R fits stays is_item c i items
-      → (leaps_at (slice_get c.nodes.nodes i) ≡ true → 0 < words_in H items)
-      → IsBlock R.is_straight (settled H (slice_index c.addresses) (c.place i) items)
-      → IsNodeBlock R fits c i (settled H (slice_index c.addresses) (c.place i) items)
+  pub items-are-node-blocks : ItemsAreNodeBlocks H R fits stays is_item
   items-are-node-blocks c i items a some block = record { code = items-are-node-code c i items a some; block = block }

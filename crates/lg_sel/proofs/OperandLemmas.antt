@@ -1,6 +1,6 @@
 -- The operands of nodes: their numbers, and where labels stand.
 use Rattle.std.proofs.Common.{◌≡◌, ℕ, zero, suc, ◌^◌, ◌<◌, Bool, true, false, List, [], ◌∷◌, refl, sym, ◌∙◌, arith}
-use Rattle.std.specs.Prelude.{slice_index_or, ◌&&◌}
+use Rattle.std.specs.Prelude.{slice_index_or}
 use Rattle.std.specs.List.{list_any}
 use Rattle.std.proofs.lemmas.Bool.{and_parts, or_from, or_parts}
 use Rattle.lg_carry.specs.FinalNodes.{Code}
@@ -155,17 +155,3 @@ stores-lead addressing.RegisterImmediate = refl
 -- their operands are those of the operation
 pub operands-are : (c : Code) (i : ℕ) (n : Node) → IsInText c i n → admit (forms_of n.op) n.operands ≡ true
 operands-are c i n t = (t.formed n t.here).forms
-
--- one register that is written
-pub record IsOneRegister (xs : List Operand) : Type 0 where
-  pub register : Reg
-  pub is : xs ≡ operand.Reg register ∷ []
-
-pub written-one : (xs : List Operand) → admit (form.Write ∷ []) xs ≡ true → IsOneRegister xs
-written-one (operand.Reg d ∷ []) a = record { register = d; is = refl }
-written-one (x ∷ y ∷ xs) a = true-false (sym a ∙ and-false (admits form.Write x))
-  where
-    and-false : (b : Bool) → (b && false) ≡ false
-    and-false true = refl
-    and-false false = refl
-written-one xs a = cc

@@ -1,11 +1,9 @@
 -- What `select` owes for the items of a node that it appends, where those of each family are as they have to be.
-use Rattle.std.proofs.Common.{◌≡◌, ℕ, ◌+◌, ◌-◌, ◌<◌, ◌≤◌, Bool, true, List, length, None, Some, ap, ◌∙◌, subst}
+use Rattle.std.proofs.Common.{◌≡◌, ℕ, ◌+◌, ◌-◌, ◌≤◌, Bool, true, List, length, None, Some, ap, ◌∙◌}
 use Rattle.std.specs.Prelude.{slice_get, slice_index}
 use Rattle.lg_base.specs.Layout.{code_base, most_code}
-use Rattle.lg_base.specs.declared.target.Target.{Target}
 use Rattle.lg_buf.specs.Buffers.{Buffer, place_of}
 use Rattle.lg_carry.specs.FinalNodes.{Code}
-use Rattle.lg_node.specs.Functions.{is_prolog}
 use Rattle.lg_op.specs.Forms.{forms_of, admit}
 use Rattle.lg_op.specs.declared.node.Node.{Node}
 use Rattle.lg_op.specs.declared.op.ControlOp.TheVariants as control
@@ -16,18 +14,16 @@ use Rattle.lg_op.specs.declared.operand.Label.{Label}
 use Rattle.lg_op.specs.declared.operand.Operand.{Operand}
 use Rattle.lg_op.specs.declared.operand.Operand.TheVariants as operand
 use Rattle.lg_op.specs.declared.operand.Reg.{Reg}
-use Rattle.lg_sel.proofs.EmissionLemmas.{Emits}
 use Rattle.lg_sel.proofs.FamilyLemmas.{node_of}
-use Rattle.lg_sel.proofs.LabelLemmas.{names}
 use Rattle.lg_sel.proofs.ReachLemmas.{same-label}
-use Rattle.lg_sel.proofs.StoreLemmas.{allowed}
 use Rattle.lg_sel.specs.Asked.{IsAsked}
 use Rattle.lg_sel.specs.Families.{Families, node_items}
 use Rattle.lg_sel.specs.Finished.{AreAppended}
 use Rattle.lg_sel.specs.Promises.{IsShortWhenFinished, IsAheadWhenFinished}
-use Rattle.lg_sel.specs.Selected.{IsFrame, IsFinished, part_of}
+use Rattle.lg_sel.specs.Selected.{IsFinished, part_of}
 use Rattle.lg_sel.specs.Shorts.{IsShort, IsAhead}
-use Rattle.lg_sel.specs.Holes.{Holes, Each, AreHoles, blanks, fixes_of}
+use Rattle.lg_sel.specs.Holes.{Holes, Each, fixes_of}
+use Rattle.lg_sel.specs.TargetCodes.{TargetCode}
 use Rattle.lg_sel.specs.Reaches.{reach_ahead, Leads, IsChecked, IsLeast, IsLeastAhead}
 use Rattle.lg_sel.specs.declared.reach.Reach.{Reach}
 use Rattle.lg_temp.specs.declared.choice.Choice.{Choice}
@@ -54,42 +50,20 @@ pub record IsKnownAhead {L I : Type 0} (H : Holes L I) (is_item : L → Type 0) 
   pub checked : Each (IsChecked r old) (fixes_of H (length old.bytes) (items r))
   pub least : IsLeastAhead (reach_ahead old.size) (λ s. Each (Leads old) (fixes_of H (length old.bytes) (items s))) r
 
--- of each node the items name the labels of its operands, store no more than they may, and are in range; those of a `prolog` have bytes
-pub record IsSelection {L I : Type 0} (target : Target) (homes saved : ℕ) (needs : Op → List Need) (H : Holes L I) (spelling : I → List ℕ) (fits : I → Type 0) (is_item : L → Type 0)
-    (is_store : I → Bool) (passes : Reach → (ℕ → Bool) → L → Type 0) (F : Reach → Families L) : Type 0 where
-  pub holes : AreHoles H spelling fits is_item
-  pub emits : (reach : Reach) (frame : ℕ) (choices : List Choice) (staged : List Bool) (place : ℕ) (n : Node)
-      → Emits H is_store (passes reach (names n.operands)) 1 (allowed target homes saved choices n.op) (node_items (F reach) n frame choices staged place)
-  pub fit : (reach : Reach) (frame : ℕ) (live : Reg → Bool) (staged : List Bool) (choices : List Choice) (labels place : ℕ) (n : Node) → IsFrame frame
-      → IsAsked target needs n live staged choices labels → Each is_item (node_items (F reach) n frame choices staged place)
-  pub begins : (reach : Reach) (o : Op) (xs : List Operand) (line frame : ℕ) (choices : List Choice) (staged : List Bool) (place : ℕ) → is_prolog o ≡ true
-      → 0 < length (blanks H (node_items (F reach) (node_of o xs line) frame choices staged place))
-
-module _ {L I : Type 0} {target : Target} {homes saved : ℕ} {needs : Op → List Need} {H : Holes L I} {spelling : I → List ℕ} {fits : I → Type 0} {is_item : L → Type 0}
-    {is_store : I → Bool} {passes : Reach → (ℕ → Bool) → L → Type 0} {F : Reach → Families L}
-    (ok : IsSelection target homes saved needs H spelling fits is_item is_store passes F) where
-  -- the items are those of the node
-  module _ (reach : Reach) (node : Node) (frame : ℕ) (live : Reg → Bool) (staged : List Bool) (choices : List Choice) (old new : Buffer) (items : List L)
-      (sized : IsFrame frame) (asked : IsAsked target needs node live staged choices (length old.labels))
-      (e : items ≡ node_items (F reach) node frame choices staged (length old.bytes)) (appended : AreAppended H old new items) where
-    abbrev mine : List L
-    mine = node_items (F reach) node frame choices staged (length old.bytes)
-
-    fit : Each is_item mine
-    fit = ok.fit reach frame live staged choices (length old.labels) (length old.bytes) node sized asked
-
-    own : AreAppended H old new mine
-    own = subst (AreAppended H old new) e appended
-
-    -- and where those of nodes that lead to labels have the shortest form, they have
+module _ {L I : Type 0} (T : TargetCode) (needs : Op → List Need) (H : Holes L I) (is_item : L → Type 0) (F : Reach → Families L) where
+  -- the items of a node were appended
+  module _ (reach : Reach) (node : Node) (frame : ℕ) (live : Reg → Bool) (staged : List Bool) (choices : List Choice) (old new : Buffer)
+      (asked : IsAsked T.target needs node live staged choices (length old.labels)) (appended : AreAppended H old new (node_items (F reach) node frame choices staged (length old.bytes)))
+      (fit : Each is_item (node_items (F reach) node frame choices staged (length old.bytes))) where
+    -- where those of nodes that lead to labels have the shortest form, they have
     module _ (short : (code : List ℕ) (c : Code) (i goal : ℕ) → IsFinished old new code c i → (r : Reach) (o : Op) (xs : List Operand) (l : Label)
         → slice_get xs 0 ≡ Some (operand.Label l)
         → IsKnown H is_item old new (slice_index c.addresses) goal (λ s. (F s).control o xs frame (length old.bytes)) r o xs
-        → IsShort target o goal (length old.bytes) (part_of code (length old.bytes) (length new.bytes - length old.bytes))) where
+        → IsShort T o goal (length old.bytes) (part_of code (length old.bytes) (length new.bytes - length old.bytes))) where
       shortest-of : (code : List ℕ) (c : Code) (i goal : ℕ) → IsFinished old new code c i → (l : Label) (o : Op) (xs : List Operand) (line : ℕ)
           → slice_get xs 0 ≡ Some (operand.Label l)
           → IsKnown H is_item old new (slice_index c.addresses) goal (λ s. node_items (F s) (node_of o xs line) frame choices staged (length old.bytes)) reach o xs
-          → IsShort target o goal (length old.bytes) (part_of code (length old.bytes) (length new.bytes - length old.bytes))
+          → IsShort T o goal (length old.bytes) (part_of code (length old.bytes) (length new.bytes - length old.bytes))
       shortest-of code c i goal f l (op.Branch o last) xs line first k = short code c i goal f reach (op.Branch o last) xs l first k
       shortest-of code c i goal f l (op.BranchSum o last) xs line first k = short code c i goal f reach (op.BranchSum o last) xs l first k
       shortest-of code c i goal f l (op.Control control.Jmp last_operand.Immediate) xs line first k =
@@ -100,30 +74,30 @@ module _ {L I : Type 0} {target : Target} {homes saved : ℕ} {needs : Op → Li
           short code c i goal f reach (op.Control control.Finish last_operand.Immediate) xs l first k
       shortest-of code c i goal f l o xs line first k = tt
 
-      pub selected-shortest : Each (IsChecked reach old) (fixes_of H (length old.bytes) items)
+      pub selected-shortest : Each (IsChecked reach old) (fixes_of H (length old.bytes) (node_items (F reach) node frame choices staged (length old.bytes)))
           → ((l : Label) (goal : ℕ) → slice_get node.operands 0 ≡ Some (operand.Label l) → place_of old.labels l.0 ≡ Some goal → length old.bytes ≤ most_code
           → IsLeast (λ r. Each (Leads old) (fixes_of H (length old.bytes) (node_items (F r) node frame choices staged (length old.bytes)))) reach)
-          → IsShortWhenFinished target node old new
+          → IsShortWhenFinished T node old new
       selected-shortest checked least code c i goal l f low first bound address =
           let formed = asked.formed in
           shortest-of code c i goal f l node.op node.operands node.line first record {
             admitted = formed.forms;
-            appended = own;
+            appended = appended;
             fit = fit;
             labels = λ m is. let same : m ≡ l = same-label node.operands m l is first in
                 (ap (λ (k : Label). place_of old.labels k.0) same ∙ bound, ap (λ (k : Label). slice_index c.addresses k.0) same ∙ address);
-            checked = subst (λ xs. Each (IsChecked reach old) (fixes_of H (length old.bytes) xs)) e checked;
+            checked = checked;
             least = least l goal first bound low;
           }
 
     -- and where those of nodes that lead ahead have the form that the buffer's size asks for, they have
     module _ (ahead : (code : List ℕ) (c : Code) (i : ℕ) → IsFinished old new code c i → (r : Reach) (o : Op) (xs : List Operand) (l : Label)
         → slice_get xs 0 ≡ Some (operand.Label l) → IsKnownAhead H is_item old new (λ s. (F s).control o xs frame (length old.bytes)) r o xs
-        → IsAhead target (reach_ahead old.size) o (length old.bytes) (part_of code (length old.bytes) (length new.bytes - length old.bytes))) where
+        → IsAhead T (reach_ahead old.size) o (length old.bytes) (part_of code (length old.bytes) (length new.bytes - length old.bytes))) where
       ahead-of : (code : List ℕ) (c : Code) (i : ℕ) → IsFinished old new code c i → (l : Label) (o : Op) (xs : List Operand) (line : ℕ)
           → slice_get xs 0 ≡ Some (operand.Label l)
           → IsKnownAhead H is_item old new (λ s. node_items (F s) (node_of o xs line) frame choices staged (length old.bytes)) reach o xs
-          → IsAhead target (reach_ahead old.size) o (length old.bytes) (part_of code (length old.bytes) (length new.bytes - length old.bytes))
+          → IsAhead T (reach_ahead old.size) o (length old.bytes) (part_of code (length old.bytes) (length new.bytes - length old.bytes))
       ahead-of code c i f l (op.Branch o last) xs line first k = ahead code c i f reach (op.Branch o last) xs l first k
       ahead-of code c i f l (op.BranchSum o last) xs line first k = ahead code c i f reach (op.BranchSum o last) xs l first k
       ahead-of code c i f l (op.Control control.Jmp last_operand.Immediate) xs line first k =
@@ -134,18 +108,18 @@ module _ {L I : Type 0} {target : Target} {homes saved : ℕ} {needs : Op → Li
           ahead code c i f reach (op.Control control.Finish last_operand.Immediate) xs l first k
       ahead-of code c i f l o xs line first k = tt
 
-      pub selected-ahead : Each (IsChecked reach old) (fixes_of H (length old.bytes) items)
+      pub selected-ahead : Each (IsChecked reach old) (fixes_of H (length old.bytes) (node_items (F reach) node frame choices staged (length old.bytes)))
           → ((l : Label) → slice_get node.operands 0 ≡ Some (operand.Label l) → place_of old.labels l.0 ≡ None → length old.bytes ≤ most_code
           → IsLeastAhead (reach_ahead old.size)
           (λ r. Each (Leads old) (fixes_of H (length old.bytes) (node_items (F r) node frame choices staged (length old.bytes)))) reach)
-          → IsAheadWhenFinished target node old new
+          → IsAheadWhenFinished T node old new
       selected-ahead checked least code c i l f low first free =
           let formed = asked.formed in
           ahead-of code c i f l node.op node.operands node.line first record {
             admitted = formed.forms;
-            appended = own;
+            appended = appended;
             fit = fit;
             labels = λ m is. let same : m ≡ l = same-label node.operands m l is first in ap (λ (k : Label). place_of old.labels k.0) same ∙ free;
-            checked = subst (λ xs. Each (IsChecked reach old) (fixes_of H (length old.bytes) xs)) e checked;
+            checked = checked;
             least = least l first free low;
           }

@@ -1,4 +1,3 @@
-pub mod A64Touched
 pub mod Asked
 pub mod Backends
 pub mod Chosen
@@ -12,9 +11,8 @@ pub mod Needs
 pub mod NodeItems
 pub mod Promises
 pub mod Reaches
-pub mod RvTouched
 pub mod Selected
 pub mod Shorts
 pub mod Stores
+pub mod TargetCodes
 pub mod Targets
-pub mod X86Touched

@@ -1,11 +1,11 @@
 // A target as a type: its items, what they are in the definitions, and what is proved of them.
 
 ghost use Rattle.std.specs.Prelude.{◌≡◌, ℕ, ◌+◌, ◌<◌, ◌≤◌, ◌++◌, ◌↔◌, List, Bool, [], length, false, IsTrue};
-ghost use Rattle.lg_base.specs.declared.target.Target.{Target};
 ghost use Rattle.lg_op.specs.declared.node.Node.{Node};
 ghost use Rattle.lg_op.specs.declared.op.Op.{Op};
 ghost use Rattle.lg_sel.specs.Holes.{words_in, blanks, fixes_of, Each};
 ghost use Rattle.lg_sel.specs.Backends.{IsBackend};
+ghost use Rattle.lg_sel.specs.TargetCodes.{TargetCode};
 ghost use Rattle.lg_sel.specs.declared.reach.Reach.{Reach};
 ghost use Rattle.lg_sel.specs.declared.site.Site.{Site};
 ghost use Rattle.lg_temp.specs.declared.choice.Need.{Need};
@@ -73,8 +73,8 @@ pub trait Backend {
     /// A list of items.
     type List: ItemList<Self::Item>;
 
-    /// Which target it is.
-    ghost target: { Target };
+    /// Which target it is, its processor, and its words in the promises of its code.
+    ghost code: { TargetCode };
 
     /// What the temporaries of an operation's code need, as `choose` of lg_temp takes it.
     ghost needed: { Op → List Need };
@@ -96,12 +96,12 @@ pub trait Backend {
 
     /// Which target it is.
     fn target() -> Target
-        ensures { result ≡ target };
+        ensures { result ≡ code.target };
 
     /// What holds of its items (`IsBackend`): they can be appended, lead to the node's labels, store no more than they may, have the shortest form that
     /// reaches, and carry the node once the buffer is finished. The function does nothing.
     fn what_holds()
-        ensures { IsBackend target needed spelling fits is_store Self.Item.holes Self.Item.is_item Self.Item.names_one_of is_given items_of };
+        ensures { IsBackend code needed spelling fits is_store Self.Item.holes Self.Item.is_item Self.Item.names_one_of is_given items_of };
 
     /// What the temporaries of a node's code need.
     fn needs(node: &Node) -> Needs

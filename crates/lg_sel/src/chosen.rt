@@ -50,11 +50,11 @@ pub fn append_node<B: Backend>(
     requires labels { NameBelow (length buf.old.labels) node.now.operands }
     requires immediates { TakesLabelsWell node.now }
     requires room { 0 < buf.old.room }
-    requires whole { length buf.old.bytes % alignment_of B.target ≡ 0 }
+    requires whole { length buf.old.bytes % alignment_of B.code.target ≡ 0 }
     ensures refused { result ≡ false → (buf.new ≡ buf.old) × (buf.old.capacity < length buf.old.bytes + 256) }
     ensures room { buf.old.room ≤ buf.new.room + 1 }
     ensures others { buf.new ≡ record buf.old { bytes = buf.new.bytes; fixes = buf.new.fixes; room = buf.new.room } }
-    ensures appended { IsTrue result → HasCode B.target (B.needed node.now.op) node.now frame.size frame.homes frame.saved (has live_after) staged.arguments
+    ensures appended { IsTrue result → HasCode B.code (B.needed node.now.op) node.now frame.size frame.homes frame.saved (has live_after) staged.arguments
         buf.old buf.new }
 {
     // the fixes end within the bytes

@@ -1,5 +1,5 @@
 //! The code of a node on every target: the items that it is made of and how they are appended to a buffer, what it promises, when a
-//! finished buffer keeps it, and the laws of nodes that lead elsewhere (control).
+//! finished buffer keeps it, and the code of nodes that lead elsewhere (control).
 #![tactic(auto)]
 
 mod backend;
@@ -8,9 +8,7 @@ mod chosen;
 pub mod control;
 mod emission;
 mod item;
-pub mod item_laws;
 mod items;
-pub mod laws;
 pub mod operands;
 mod reach;
 mod selection;

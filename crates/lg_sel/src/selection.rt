@@ -37,16 +37,16 @@ pub fn select<B: Backend>(
     buf: &mut CodeBuf,
 ) -> bool
     requires formed { InForm node.now }
-    requires choices { AreChosen B.target (B.needed node.now.op) node.now (has live_after) site.now.staged.arguments site.now.choices }
+    requires choices { AreChosen B.code.target (B.needed node.now.op) node.now (has live_after) site.now.staged.arguments site.now.choices }
     requires staged { is_pusharg node.now.op ≡ true → AreFirst site.now.staged.arguments }
     requires labels { NameBelow (length buf.old.labels) node.now.operands }
     requires immediates { TakesLabelsWell node.now }
     requires room { 0 < buf.old.room }
-    requires whole { length buf.old.bytes % alignment_of B.target ≡ 0 }
+    requires whole { length buf.old.bytes % alignment_of B.code.target ≡ 0 }
     ensures refused { result ≡ false → (buf.new ≡ buf.old) × (buf.old.capacity < length buf.old.bytes + 256) }
     ensures one_fix { buf.old.room ≤ buf.new.room + 1 }
     ensures others { buf.new ≡ record buf.old { bytes = buf.new.bytes; fixes = buf.new.fixes; room = buf.new.room } }
-    ensures appended { IsTrue result → IsAppended B.target node.now site.now.frame.size site.now.frame.homes site.now.frame.saved (has live_after)
+    ensures appended { IsTrue result → IsAppended B.code node.now site.now.frame.size site.now.frame.homes site.now.frame.saved (has live_after)
         site.now.staged.arguments site.now.choices buf.old buf.new }
 {
     B::what_holds();

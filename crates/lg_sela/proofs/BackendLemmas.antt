@@ -1,41 +1,60 @@
 -- What AArch64 shows of its items, so that `select` keeps its promises.
-use Rattle.std.proofs.Common.{◌≡◌, ℕ, ◌+◌, ◌*◌, ◌%◌, true, List, ◌∷◌, [], ◌++◌, length, refl, ap, ◌∙◌, subst, arith}
-use Rattle.std.specs.List.{All}
-use Rattle.std.proofs.lemmas.List.{drop_at}
+use Rattle.std.proofs.Common.{◌≡◌, ℕ, ◌+◌, ◌*◌, ◌%◌, true, List, ◌∷◌, [], length, ap, ◌∙◌, subst, arith, ◌<◌, ◌≤◌, Bool, false}
 use Rattle.lg_base.specs.declared.target.Target.TheVariants.{Aarch64}
-use Rattle.lg_buf.specs.Buffers.{Buffer}
-use Rattle.lg_buf.specs.declared.fixes.Fix.{Fix}
 use Rattle.lg_op.specs.Forms.{is_alignment, forms_of, admit}
 use Rattle.lg_op.specs.Nodes.{InForm}
 use Rattle.lg_op.specs.declared.node.Node.{Node}
 use Rattle.lg_op.specs.declared.op.Op.{Op}
-use Rattle.lg_op.specs.declared.op.Op.TheVariants as op
-use Rattle.lg_op.specs.declared.op.PlainOp.TheVariants as plain
 use Rattle.lg_op.specs.declared.operand.Operand.{Operand}
-use Rattle.lg_op.specs.declared.operand.Operand.TheVariants as operand
 use Rattle.lg_a64.specs.Spelling.{IsInstr, spelling}
-use Rattle.lg_sel.proofs.EmissionLemmas.{stores-counted}
-use Rattle.lg_sel.proofs.LabelLemmas.{names}
 use Rattle.lg_sel.proofs.PlaceLemmas.{and-first}
-use Rattle.lg_sel.proofs.SelectionLemmas.{selected-shortest, selected-ahead}
-use Rattle.lg_sel.proofs.StoreLemmas.{allowed}
 use Rattle.lg_sel.specs.Backends.{IsBackend}
-use Rattle.lg_sel.specs.Selected.{IsAligned, IsFixOf}
-use Rattle.lg_sel.specs.Stores.{a64_stores}
+use Rattle.lg_sel.specs.Selected.{IsAligned}
+use Rattle.lg_sela.specs.Stores.{a64_stores}
 use Rattle.lg_sel.specs.declared.reach.Reach.{Reach}
 use Rattle.lg_sel.specs.declared.site.Site.{Site}
-use Rattle.lg_sela.proofs.CarriedLemmas.{a64-selection, selected-carries, at-most-256, appended-lead}
 use Rattle.lg_sela.proofs.Emissions.{Names}
-use Rattle.lg_sela.proofs.NodeFits.{choices-fit, items-fit, node-emits}
+use Rattle.lg_sela.proofs.NodeFits.{choices-fit, families-emit, families-fit, families-stay}
 use Rattle.lg_sela.proofs.OfControl.AlignLemmas.{alignments-align}
 use Rattle.lg_sela.proofs.ShortLemmas.{node-short, node-ahead}
 use Rattle.lg_sela.specs.Control.Alignments.{align_code}
-use Rattle.lg_sela.specs.Items.{site_items, IsGiven}
+use Rattle.lg_sela.specs.Code.{a64_code}
+use Rattle.lg_sela.specs.Items.{site_items, IsGiven, a64_families, node_items}
 use Rattle.lg_sela.specs.Selected.{needs}
 use Rattle.lg_sela_values.proofs.ItemLemmas.{blank_bytes, words-ones}
 use Rattle.lg_sela_values.proofs.PatchLemmas.{are-holes}
-use Rattle.lg_sela_values.specs.Items.{a64_holes, IsItem, NamesOneOf, bytes_in, blanks, fixes_of, ones}
+use Rattle.lg_sela_values.specs.Items.{a64_holes, IsItem, NamesOneOf, bytes_in, blanks, ones, words_in, StaysWithin}
 use Rattle.lg_sela_values.specs.declared.items.Item.{Item}
+use Rattle.std.specs.Prelude.{◌-◌, if◌then◌else◌}
+use Rattle.lg_carry.specs.Carries.{moves_at}
+use Rattle.lg_sela.specs.Control.Prologs.{fall_code, framed_code, is_near}
+use Rattle.lg_node.specs.Functions.{is_prolog}
+use Rattle.lg_sel.proofs.FamilyLemmas.{node_of}
+use Rattle.lg_sela.proofs.NodeLemmas.{families}
+use Rattle.lg_temp.specs.declared.choice.Choice.{Choice}
+use Rattle.std.proofs.lemmas.Bool.Decides.{nat_tests}
+use Rattle.lg_sela_values.specs.Processor.Destinations.{WritesWithin}
+use Rattle.lg_sela_values.specs.Processor.A64Rows.{a64_rows}
+use Rattle.lg_sela_values.proofs.OfNodesLemmas.{settled-within}
+use Rattle.lg_sel.proofs.PartLemmas.{HasParts, is-backend}
+use Rattle.lg_sela.proofs.FixLemmas.{leads, whole}
+use Rattle.lg_base.specs.Layout.{code_base}
+use Rattle.lg_op.specs.declared.op.Op.TheVariants as op
+use Rattle.lg_op.specs.declared.op.PlainOp.TheVariants as plain
+use Rattle.lg_op.specs.declared.operand.Operand.TheVariants as operand
+
+-- 64 instructions have at most 256 bytes
+pub at-most-256 : (items : List Item) → words_in items ≤ 64 → length (blanks items) ≤ 256
+at-most-256 items few = let size = blank_bytes items in omega (arith, few, size)
+
+-- a `prolog` has some
+prolog-some : (homes saved : ℕ) (reach : Reach) (o : Op) (xs : List Operand) (line frame : ℕ) (choices : List Choice) (staged : List Bool) (place : ℕ) → is_prolog o ≡ true → 0 < words_in (node_items homes saved reach (node_of o xs line) frame choices staged place)
+prolog-some homes saved reach (op.Plain plain.Prolog) xs line frame choices staged place is = by (is_near frame)
+  where
+    by : (b : Bool) → 0 < words_in (ones (if b then framed_code saved frame homes [] else framed_code saved 112 homes (fall_code (frame - 112))))
+    by true = omega arith
+    by false = omega arith
+prolog-some homes saved reach o xs line frame choices staged place is = cc
 
 -- after an `.align` the place is a multiple of its number
 aligned : (reach : Reach) (node : Node) (site : Site) (place : ℕ) → InForm node → place % 4 ≡ 0 → IsAligned node (place + length (blanks (site_items reach node site place)))
@@ -48,38 +67,33 @@ aligned reach node site place formed even n is xs =
     let total : place + length (blanks (site_items reach node site place)) ≡ place + 4 * length (align_code place n) = omega (arith, size, words) in
     ap (λ (k : ℕ). k % n) total ∙ alignments-align place n (and-first (is_alignment n) true admitted) even
 
-pub a64-backend : IsBackend Aarch64 needs spelling IsInstr a64_stores a64_holes IsItem NamesOneOf IsGiven site_items
-a64-backend = record {
+a64-parts : HasParts a64_code needs spelling IsInstr a64_stores a64_holes IsItem NamesOneOf IsGiven a64_families a64_rows WritesWithin StaysWithin Names
+a64-parts = record {
   holes = are-holes;
   given = λ n live site formed chosen first.
       let fit = choices-fit n live site.staged.arguments site.choices chosen in
       record { formed = formed; few = fit.0; slots = fit.1; first = first };
-  emittable = λ reach n live site labels place asked few.
-      let fit = items-fit site.frame.homes site.frame.saved reach site.frame.size live site.staged.arguments site.choices labels place n site.frame.is_frame asked in
-      record { instrs = fit.instrs; names = fit.names; fixed = fit.fixed; small = at-most-256 (site_items reach n site place) few };
-  whole = λ reach n site place even. let size = blank_bytes (site_items reach n site place) in omega (arith, size, even);
-  begins = λ reach n site place prolog.
-      (a64-selection site.frame.homes site.frame.saved).begins reach n.op n.operands n.line site.frame.size site.choices site.staged.arguments place prolog;
+  emit = families-emit;
+  fit = families-fit;
+  stay = families-stay;
+  small = λ reach n live site labels place asked few. at-most-256 (site_items reach n site place) few;
+  whole = whole;
+  leads = leads;
+  begins = λ reach n site place is.
+      let some = prolog-some site.frame.homes site.frame.saved reach n.op n.operands n.line site.frame.size site.choices site.staged.arguments place is in
+      let size = blank_bytes (site_items reach n site place) in omega (arith, some, size);
   aligned = aligned;
-  lead = λ reach n site old even checked.
-      let fixes : List Fix = fixes_of (length old.bytes) (site_items reach n site (length old.bytes)) in
-      let new : Buffer = record old { fixes = old.fixes ++ fixes } in
-      subst (All (IsFixOf 4 old n)) (drop_at old.fixes fixes (length old.fixes) refl)
-      (appended-lead n old site.frame.homes site.frame.saved reach site.frame.size site.choices site.staged.arguments new (site_items reach n site (length old.bytes)) refl refl even checked);
-  stores = λ reach n site place to at.
-      stores-counted a64_holes a64_stores (Names reach (names n.operands)) 1 (allowed Aarch64 site.frame.homes site.frame.saved site.choices n.op) (site_items reach n site place)
-      (node-emits site.frame.homes site.frame.saved reach site.frame.size site.choices site.staged.arguments place n) to at;
   instructions = λ bytes h. h;
   sparing = λ most bytes h. h;
-  shortest = λ reach n site live old new s.
-      selected-shortest (a64-selection site.frame.homes site.frame.saved) reach n site.frame.size live site.staged.arguments site.choices old new
-      (site_items reach n site (length old.bytes)) site.frame.is_frame s.asked refl s.appended
-      (λ code d i goal f. node-short old new code d i f goal site.frame.size site.frame.homes site.frame.saved) s.checked s.least;
-  ahead = λ reach n site live old new s.
-      selected-ahead (a64-selection site.frame.homes site.frame.saved) reach n site.frame.size live site.staged.arguments site.choices old new
-      (site_items reach n site (length old.bytes)) site.frame.is_frame s.asked refl s.appended
-      (λ code d i f. node-ahead old new code d i f site.frame.size site.frame.homes site.frame.saved) s.checked s.ahead;
-  carries = λ reach n site live old new s.
-      selected-carries site.frame.homes site.frame.saved reach n site.frame.size live site.staged.arguments site.choices old new
-      (site_items reach n site (length old.bytes)) site.frame.is_frame s.asked refl s.few s.appended s.whole;
+  short = λ old new code c i goal f. node-short old new code c i f goal;
+  ahead = λ old new code c i f. node-ahead old new code c i f;
+  holes_in = λ code trash. are-holes;
+  finished = λ old new code trash c i f. f;
+  is_place = λ code trash place whole. let w : (code_base + place) % 4 ≡ 0 = omega (arith, whole) in grind (arith, nat_tests, w);
+  settle = λ code trash n. settled-within (moves_at Aarch64 n);
+  carry = λ reach code trash c i live site.
+      families reach code trash c i site.frame.size site.frame.homes site.frame.saved live site.staged.arguments site.choices;
 }
+
+pub a64-backend : IsBackend a64_code needs spelling IsInstr a64_stores a64_holes IsItem NamesOneOf IsGiven site_items
+a64-backend = is-backend a64_code needs spelling IsInstr a64_stores a64_holes IsItem NamesOneOf IsGiven a64_families a64_rows WritesWithin StaysWithin Names a64-parts

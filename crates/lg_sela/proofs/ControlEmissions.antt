@@ -28,7 +28,8 @@ use Rattle.lg_op.specs.declared.operand.Operand.{Operand}
 use Rattle.lg_op.specs.declared.operand.Operand.TheVariants as operand
 use Rattle.lg_sel.proofs.LabelLemmas.{Passes, AllPass}
 use Rattle.lg_sel.proofs.StoreLemmas as stores
-use Rattle.lg_sel.specs.Stores.{a64_stores, own_stores}
+use Rattle.lg_sel.specs.Stores.{own_stores}
+use Rattle.lg_sela.specs.Stores.{a64_stores}
 use Rattle.lg_carry.specs.Nodes.Immediates.{immediate}
 use Rattle.lg_sel.specs.declared.reach.Reach.{Reach}
 use Rattle.lg_sel.specs.declared.reach.Reach.TheVariants.{Short, Near, Far}
@@ -67,8 +68,7 @@ comparing-none o a (operand.Number v) = by (is_held o v)
     by false = comparison-none o a link
 comparing-none o a (operand.Reg b) = comparison-none o a (register_of Aarch64 b)
 comparing-none o a (operand.Host name) = comparison-none o a link
-comparing-none o a (operand.Label l) = comparison-none o a link
-comparing-none o a (operand.Slot k) = comparison-none o a link
+comparing-none o a x = comparison-none o a link
 
 sum-none : (o : BranchSumOp) (a b : ℕ) → NoneStores (sum_instruction o a b ∷ [])
 sum-none sum.OverflowAdd a b = refl
@@ -127,8 +127,7 @@ module _ (reach : Reach) (is : ℕ → Bool) where
   word t (operand.Number v) = number reach is 0 t v
   word t (operand.Host name) = number reach is 0 t (host_address name)
   word t (operand.Reg r) = none reach is 0 0
-  word t (operand.Label l) = none reach is 0 0
-  word t (operand.Slot k) = none reach is 0 0
+  word t x = none reach is 0 0
 
   compared : (x : Operand) → Emits reach is 0 0 (second_items x)
   compared (operand.Reg r) = none reach is 0 0

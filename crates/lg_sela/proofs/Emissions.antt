@@ -10,7 +10,7 @@ use Rattle.lg_a64.specs.declared.instruction.Instr.TheVariants as instr
 use Rattle.lg_a64.specs.declared.instruction.WideOp.TheVariants.{Movk}
 use Rattle.lg_sel.proofs.EmissionLemmas as emission
 use Rattle.lg_sel.proofs.StoreLemmas as stores
-use Rattle.lg_sel.specs.Stores.{a64_stores}
+use Rattle.lg_sela.specs.Stores.{a64_stores}
 use Rattle.lg_sel.specs.declared.reach.Reach.{Reach}
 use Rattle.lg_sel.specs.declared.reach.Reach.TheVariants.{Far}
 use Rattle.lg_sela_values.specs.Items.{a64_holes, ones}

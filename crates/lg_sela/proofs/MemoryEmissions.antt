@@ -23,7 +23,7 @@ use Rattle.lg_op.specs.declared.operand.Operand.{Operand}
 use Rattle.lg_op.specs.declared.operand.Operand.TheVariants as operand
 use Rattle.lg_sel.proofs.LabelLemmas.{Passes, AllPass, passes-at}
 use Rattle.lg_sel.proofs.StoreLemmas as stores
-use Rattle.lg_sel.specs.Stores.{a64_stores}
+use Rattle.lg_sela.specs.Stores.{a64_stores}
 use Rattle.lg_carry.specs.Memory.Accesses.{Address, Base, At, Sum, Index, address_of}
 use Rattle.lg_sel.specs.declared.reach.Reach.{Reach}
 use Rattle.lg_sela.proofs.Emissions.{NoneStores, number-none, Emits, none, append, more, either, instructions, plain, number, address}
@@ -84,9 +84,7 @@ unscaled-one v at = omega arith
 
 word-none : (d : ℕ) (at : Address) → NoneStores (word_load d at)
 word-none d (Sum a b) = refl
-word-none d (Base a) = refl
-word-none d (At v) = refl
-word-none d (Index a v) = refl
+word-none d o = refl
 
 load-at-none : (t : ValueType) (d : ℕ) (at : Address) → NoneStores (load_at t d at)
 load-at-none t d at = stores.none-if a64_stores (is_word (width t) at) (word_load d at) (loading t d (place_of (width t) at)) (word-none d at) (loading-none t d (width t) at)

@@ -1,29 +1,26 @@
 -- The items of each node can be appended to a buffer, and write no register that is outside of the conventions.
 use Rattle.std.proofs.Common.{ℕ, ◌≤◌, Bool, List, [], length, arith, ◌+◌}
-use Rattle.lg_carry.specs.Outside.{moves_stack}
 use Rattle.lg_base.specs.declared.target.Target.TheVariants.{Aarch64}
 use Rattle.lg_op.specs.declared.node.Node.{Node}
 use Rattle.lg_op.specs.declared.operand.Reg.{Reg}
 use Rattle.lg_meaning.specs.Steps.{operand_at}
-use Rattle.lg_sel.proofs.LabelLemmas.{names, all-self}
+use Rattle.lg_sel.proofs.LabelLemmas.{names}
 use Rattle.lg_sel.proofs.NodeEmissionLemmas as emission
 use Rattle.lg_sel.proofs.NodeFitLemmas as fit
 use Rattle.lg_sel.proofs.NodeFitLemmas.{passed}
-use Rattle.lg_sel.proofs.StoreLemmas.{allowed}
 use Rattle.lg_carry.specs.Nodes.Operands.{NameBelow}
-use Rattle.lg_sel.specs.Selected.{IsFrame}
-use Rattle.lg_sel.specs.Stores.{a64_stores}
+use Rattle.lg_sela.specs.Stores.{a64_stores}
 use Rattle.lg_sel.specs.declared.reach.Reach.{Reach}
 use Rattle.lg_sela.proofs.ControlEmissions.{controls-emit}
-use Rattle.lg_sela.proofs.Emissions.{Names, Emits, more}
+use Rattle.lg_sela.proofs.Emissions.{Names, more}
 use Rattle.lg_sela.proofs.MemoryEmissions.{loads-emit, stores-emit, arguments-emit, next-arguments-emit, pushes-emit}
 use Rattle.lg_carry.proofs.OfNodes.GivenLemmas.{are-given}
 use Rattle.lg_sela.proofs.ValueEmissions.{values-emit}
-use Rattle.lg_sela.specs.Items.{a64_families, node_items}
-use Rattle.lg_sela.specs.Selected.{needs, AreChosen, IsAsked}
+use Rattle.lg_sela.specs.Items.{a64_families}
+use Rattle.lg_sela.specs.Selected.{needs, AreChosen}
 use Rattle.lg_sela.proofs.OfControl.FitLemmas.{control-items-fit}
 use Rattle.lg_sela.proofs.OfControl.WithinLemmas.{control-items-stay}
-use Rattle.lg_sela_values.specs.Items.{a64_holes, IsItem, NamesOneOf, StaysWithin, StayWithin, fixes_of, AreItems, NameLabels, ones}
+use Rattle.lg_sela_values.specs.Items.{a64_holes, IsItem, NamesOneOf, StaysWithin, ones}
 use Rattle.lg_sela_values.specs.declared.items.Item.{Item}
 use Rattle.lg_sela.proofs.OfMemory.FitLemmas.{memory-items-fit}
 use Rattle.lg_sela.proofs.OfMemory.WithinLemmas.{memory-items-name, memory-items-stay}
@@ -43,7 +40,7 @@ choices-fit n live staged choices k =
     (values.few, values.slots)
 
 -- ---- labels, fixes and stores
-families-emit : (homes saved : ℕ) (reach : Reach) → emission.FamiliesEmit Aarch64 homes saved a64_holes a64_stores (Names reach) (a64_families homes saved reach)
+pub families-emit : (homes saved : ℕ) (reach : Reach) → emission.FamiliesEmit Aarch64 homes saved a64_holes a64_stores (Names reach) (a64_families homes saved reach)
 families-emit homes saved reach = record {
   values = λ is frame n choices h. values-emit reach is n choices h;
   loads = λ is frame t at n choices. more reach is 1 1 0 (spills choices) (ones (load_code t at n)) (omega arith) (omega arith) (loads-emit reach is t at n);
@@ -54,9 +51,6 @@ families-emit homes saved reach = record {
   controls = λ is o xs frame at. controls-emit reach is o xs frame homes saved at;
 }
 
-pub node-emits : (homes saved : ℕ) (reach : Reach) (frame : ℕ) (choices : List Choice) (staged : List Bool) (place : ℕ) (n : Node) → Emits reach (names n.operands) 1 (allowed Aarch64 homes saved choices n.op) (node_items homes saved reach n frame choices staged place)
-node-emits homes saved reach frame choices staged place n = emission.node-emits Aarch64 homes saved a64_holes a64_stores (Names reach) (a64_families homes saved reach) (families-emit homes saved reach) frame choices staged place n (names n.operands) (all-self n.operands)
-
 -- ---- ranges
 abbrev Fit : ℕ → ℕ → Reach → ℕ → List Item → Type 0
 Fit homes saved reach labels xs = fit.Fit Aarch64 needs (a64_families homes saved reach) IsItem NamesOneOf labels xs
@@ -66,7 +60,7 @@ values : (homes saved : ℕ) (reach : Reach) (labels : ℕ) (n : Node) (live : R
 values homes saved reach labels n live set choices are named =
     record { instrs = (value-items-fit n live set choices are).fit; names = value-items-name labels n choices named }
 
-families-fit : (homes saved : ℕ) (reach : Reach) (labels : ℕ) → fit.FamiliesFit Aarch64 needs (a64_families homes saved reach) IsItem NamesOneOf labels
+pub families-fit : (homes saved : ℕ) (reach : Reach) (labels : ℕ) → fit.FamiliesFit Aarch64 needs (a64_families homes saved reach) IsItem NamesOneOf labels
 families-fit homes saved reach labels = record {
   values = λ frame n live set choices sized is are named words. values homes saved reach labels n live set choices are named;
   loads = λ frame n t at live set choices sized e are words. record { instrs = (memory-items-fit.loads t at n).appendable.fit; names = memory-items-name.loads labels t at n };
@@ -80,19 +74,8 @@ families-fit homes saved reach labels = record {
       record { instrs = emitted.items; names = emitted.labels };
 }
 
--- the items can be appended, with at most one fix
-pub record AreEmittable (labels : ℕ) (items : List Item) : Type 0 where
-  pub instrs : AreItems items
-  pub names : NameLabels labels items
-  pub fixed : (p : ℕ) → length (fixes_of p items) ≤ 1
-
-pub items-fit : (homes saved : ℕ) (reach : Reach) (frame : ℕ) (live : Reg → Bool) (staged : List Bool) (choices : List Choice) (labels place : ℕ) (n : Node) → IsFrame frame → IsAsked n live staged choices labels → AreEmittable labels (node_items homes saved reach n frame choices staged place)
-items-fit homes saved reach frame live staged choices labels place n sized k =
-    let fits = fit.items-fit Aarch64 needs (a64_families homes saved reach) IsItem NamesOneOf labels (families-fit homes saved reach labels) frame sized live staged choices place n k in
-    record { instrs = fits.instrs; names = fits.names; fixed = (node-emits homes saved reach frame choices staged place n).fixed }
-
 -- ---- registers
-families-stay : (homes saved : ℕ) (reach : Reach) → fit.FamiliesStay Aarch64 needs (a64_families homes saved reach) StaysWithin
+pub families-stay : (homes saved : ℕ) (reach : Reach) → fit.FamiliesStay Aarch64 needs (a64_families homes saved reach) StaysWithin
 families-stay homes saved reach = record {
   values = λ frame n live set choices is are. value-items-stay n live set choices are;
   loads = λ frame t at n live set choices e are. memory-items-stay.loads t at n;
@@ -102,7 +85,3 @@ families-stay homes saved reach = record {
   pushes = λ frame j n. memory-items-stay.pushes j n;
   controls = λ n frame place. control-items-stay reach n frame homes saved place;
 }
-
-pub items-within : (homes saved : ℕ) (reach : Reach) (frame : ℕ) (live : Reg → Bool) (staged : List Bool) (choices : List Choice) (labels place : ℕ) (n : Node) → IsAsked n live staged choices labels → StayWithin (moves_stack Aarch64 n.op) (node_items homes saved reach n frame choices staged place)
-items-within homes saved reach frame live staged choices labels place n k =
-    fit.items-stay Aarch64 needs (a64_families homes saved reach) StaysWithin (families-stay homes saved reach) frame live k.chosen.set staged choices place n (fit.are-made Aarch64 needs (a64_families homes saved reach) n live staged choices labels k)

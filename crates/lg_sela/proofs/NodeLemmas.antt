@@ -1,8 +1,7 @@
 -- Each node is carried by its items.
-use Rattle.std.proofs.Common.{◌≡◌, ℕ, ◌+◌, ◌<◌, Bool, true, false, List, [], refl, sym, ap, subst, ◌∙◌}
+use Rattle.std.proofs.Common.{◌≡◌, ℕ, ◌<◌, Bool, true, false, List, [], refl, sym, ap, subst, ◌∙◌}
 use Rattle.std.specs.Prelude.{slice_get, slice_index}
 use Rattle.std.specs.List.{list_any}
-use Rattle.lg_base.specs.Layout.{code_base}
 use Rattle.lg_base.specs.declared.target.Target.TheVariants.{Aarch64}
 use Rattle.lg_op.specs.Forms.{forms_of}
 use Rattle.lg_op.specs.declared.node.Node.{Node}
@@ -22,16 +21,17 @@ use Rattle.lg_node.specs.Preparations.{pushed}
 use Rattle.lg_sela_values.specs.Processor.Places.{IsInCode}
 use Rattle.lg_sela_values.specs.Processor.A64Rows.{a64_processor}
 use Rattle.lg_a64.specs.declared.instruction.Instr.{Instr}
+use Rattle.lg_sel.proofs.PartLemmas as parts
 use Rattle.lg_sel.proofs.CountLemmas.{count-is}
-use Rattle.lg_sel.proofs.FamilyLemmas.{HoldsOfFamilies, of-node, value-stays}
+use Rattle.lg_sel.proofs.FamilyLemmas.{HoldsOfFamilies, value-stays}
 use Rattle.lg_sel.proofs.OperandLemmas.{has-words, leads_nowhere, unlabelled, no-labels, control-ends, loads-lead, stores-lead, operands-are}
 use Rattle.lg_sel.specs.Families.{staged_count}
 use Rattle.lg_carry.specs.Values.ValueNodes.{is_value}
 use Rattle.lg_carry.specs.Memory.Operands.{is_label}
 use Rattle.lg_sel.specs.declared.reach.Reach.{Reach}
-use Rattle.lg_sela.specs.Items.{a64_families, node_items}
-use Rattle.lg_sel.specs.Selected.{is_pusharg, may_take_label, IsNodeOf}
-use Rattle.lg_sela.specs.Selected.{IsAsked}
+use Rattle.lg_sela.specs.Selected.{needs}
+use Rattle.lg_sela.specs.Items.{a64_families}
+use Rattle.lg_sel.specs.Selected.{is_pusharg, may_take_label}
 use Rattle.lg_sel.proofs.NodeFitLemmas.{few-staged}
 use Rattle.lg_carry.proofs.OfNodes.GivenLemmas.{are-given, are-words}
 use Rattle.lg_sela.proofs.PlaceLemmas.{control-items-at}
@@ -76,11 +76,8 @@ plain-code code trash c i n is t stays fit a =
     let to : ℕ → ℕ = slice_index c.addresses in
     subst (IsInCode code trash c i) (settled-ones to (c.place i) is) (items-are-in-code code trash c i (ones is) a (falls c i n (ones is) t stays) (fit.block to (c.place i)))
 
--- what is known of a node whose code begins at a place of the buffer
-pub record IsKnown (c : Code) (i : ℕ) (n : Node) (frame homes saved : ℕ) (live : Reg → Bool) (staged : List Bool) (choices : List Choice) (labels place : ℕ) : Type 0 where
-  pub node : IsNodeOf 4 n frame homes saved staged c i
-  pub asked : IsAsked n live staged choices labels
-  pub address : c.place i ≡ code_base + place
+abbrev IsKnown : Code → ℕ → Node → ℕ → ℕ → ℕ → (Reg → Bool) → List Bool → List Choice → ℕ → ℕ → Type 0
+IsKnown c i n frame homes saved live staged choices labels place = parts.IsKnown Aarch64 needs c i n frame homes saved live staged choices labels place
 
 module _ (reach : Reach) (code : List ℕ) (trash : ℕ) (c : Code) (i frame homes saved : ℕ) (live : Reg → Bool) (staged : List Bool) (choices : List Choice) (labels place : ℕ) where
   abbrev Carries : Node → List Item → Type 0
@@ -145,7 +142,7 @@ module _ (reach : Reach) (code : List ℕ) (trash : ℕ) (c : Code) (i frame hom
       control-nodes-carry reach code trash c i n frame homes saved (numbered live) is k.node.places (are-words c.addresses k.node.low n.operands k.asked.words) ends k.node.frame_is
       k.node.homes_are k.node.saved_is k.node.text (subst (λ l. StandsInCode code trash c i (settled to (c.place i) l)) same stands)
 
-  families : HoldsOfFamilies (a64_families homes saved reach) Carries frame choices staged place
+  pub families : HoldsOfFamilies (a64_families homes saved reach) Carries frame choices staged place
   families = record {
     values = λ n is. values n is (value-stays n.op is);
     loads = loads;
@@ -155,6 +152,3 @@ module _ (reach : Reach) (code : List ℕ) (trash : ℕ) (c : Code) (i frame hom
     pushes = pushes;
     controls = controls;
   }
-
-  pub items-carry : (n : Node) → Carries n (node_items homes saved reach n frame choices staged place)
-  items-carry = of-node (a64_families homes saved reach) Carries frame choices staged place families

@@ -40,7 +40,9 @@ use Rattle.lg_sel.proofs.SelectionLemmas as selection
 use Rattle.lg_sel.proofs.FinishedLemmas.{items-lead}
 use Rattle.lg_sel.specs.Finished.{AreAppended}
 use Rattle.lg_sel.specs.Selected.{IsFinished, part_of}
-use Rattle.lg_sel.specs.Shorts.{a64_is_relative, LeadsBy, IsShortBranchIf, IsShort, IsBranchIfAhead, IsAhead}
+use Rattle.lg_sel.specs.Shorts.{LeadsBy, IsShort, IsAhead}
+use Rattle.lg_sela.specs.Code.{a64_code}
+use Rattle.lg_sela.specs.Shorts.{a64_is_relative, IsShortBranchIf, IsBranchIfAhead}
 use Rattle.lg_sel.proofs.OfControl.ControlLemmas.{differ, never, never-sum}
 use Rattle.lg_sel.specs.Holes.{Each}
 use Rattle.lg_sel.proofs.ListLemmas.{each-append}
@@ -141,8 +143,7 @@ comparing-apart o a (operand.Number v) = by (is_held o v)
     by false = comparison-apart o a link
 comparing-apart o a (operand.Reg b) = comparison-apart o a (register_of Aarch64 b)
 comparing-apart o a (operand.Host name) = comparison-apart o a link
-comparing-apart o a (operand.Label l) = comparison-apart o a link
-comparing-apart o a (operand.Slot k) = comparison-apart o a link
+comparing-apart o a x = comparison-apart o a link
 
 sum-apart : (o : BranchSumOp) (a b : ℕ) → Each Apart (sum_instruction o a b ∷ [])
 sum-apart sum.OverflowAdd a b = (refl, tt)
@@ -155,8 +156,7 @@ lead-fix r p l = record { place = p; kind = A64Cond19; label = record { 0 = l.0 
 
 lead-fixes : (r : Reach) (p : ℕ) (holds : Cond) (l : Label) → fixes_of p (leads_items r holds l) ≡ lead-fix r p l ∷ []
 lead-fixes Short p holds l = refl
-lead-fixes Near p holds l = refl
-lead-fixes Far p holds l = refl
+lead-fixes o p holds l = refl
 
 branch-fixes : (r : Reach) (p : ℕ) (xs : List Instr) (sets : Instr) (holds : Cond) (l : Label)
     → fixes_of p (ones xs ++ branch_if_items r sets holds l) ≡ lead-fix r (p + 4 * length (xs ++ (sets ∷ []))) l ∷ []
@@ -282,7 +282,7 @@ module _ (old new : Buffer) (code : List ℕ) (c : Code) (i : ℕ) (f : IsFinish
     short : (r : Reach) (o : Op) (xs : List Operand) → IsKnown r o xs → (b : IsBranchTo xs (λ s. control_items s o xs frame homes saved place)) → IsLed (IsShortBranchIf goal)
     short r o xs k b = let L = k.labels b.label b.names in branch-short r xs (λ s. control_items s o xs frame homes saved place) b k.appended k.fit L.0 L.1 k.least
 
-    pub node-short : (r : Reach) (o : Op) (xs : List Operand) (l : Label) → slice_get xs 0 ≡ Some (operand.Label l) → IsKnown r o xs → IsShort Aarch64 o goal place part
+    pub node-short : (r : Reach) (o : Op) (xs : List Operand) (l : Label) → slice_get xs 0 ≡ Some (operand.Label l) → IsKnown r o xs → IsShort a64_code o goal place part
     node-short r (op.Branch o last) xs l first k = short r (op.Branch o last) xs k (branch-leads o last xs k.admitted)
     node-short r (op.BranchSum o last) xs l first k = short r (op.BranchSum o last) xs k (sum-leads o last xs k.admitted)
     node-short r (op.Control control.Jmp last_operand.Immediate) xs l first k = tt
@@ -326,7 +326,7 @@ module _ (old new : Buffer) (code : List ℕ) (c : Code) (i : ℕ) (f : IsFinish
     ahead : (r : Reach) (o : Op) (xs : List Operand) → IsKnownAhead r o xs → (b : IsBranchTo xs (λ s. control_items s o xs frame homes saved place)) → IsLed (IsBranchIfAhead size_reach)
     ahead r o xs k b = branch-ahead r size_reach refl xs (λ s. control_items s o xs frame homes saved place) b k.appended k.fit (k.labels b.label b.names) k.least
 
-    pub node-ahead : (r : Reach) (o : Op) (xs : List Operand) (l : Label) → slice_get xs 0 ≡ Some (operand.Label l) → IsKnownAhead r o xs → IsAhead Aarch64 size_reach o place part
+    pub node-ahead : (r : Reach) (o : Op) (xs : List Operand) (l : Label) → slice_get xs 0 ≡ Some (operand.Label l) → IsKnownAhead r o xs → IsAhead a64_code size_reach o place part
     node-ahead r (op.Branch o last) xs l first k = ahead r (op.Branch o last) xs k (branch-leads o last xs k.admitted)
     node-ahead r (op.BranchSum o last) xs l first k = ahead r (op.BranchSum o last) xs k (sum-leads o last xs k.admitted)
     node-ahead r (op.Control control.Jmp last_operand.Immediate) xs l first k = tt

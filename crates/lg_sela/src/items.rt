@@ -1,13 +1,13 @@
 // The items of a node, and the target that has them.
 
 ghost use Rattle.std.specs.Prelude.{◌≡◌, ◌<◌, ◌≤◌, [], true, length};
-ghost use Rattle.lg_base.specs.declared.target.Target.{Target};
 ghost use Rattle.lg_op.specs.Nodes.{InForm};
 ghost use Rattle.lg_a64.specs.Spelling.{IsInstr, spelling};
+ghost use Rattle.lg_sela.specs.Code.{a64_code};
 ghost use Rattle.lg_sela.specs.Items.{site_items, IsGiven};
 ghost use Rattle.lg_sela.specs.Selected.{needs};
 ghost use Rattle.lg_sel.specs.Selected.{AreFirst, is_pusharg};
-ghost use Rattle.lg_sel.specs.Stores.{a64_stores};
+ghost use Rattle.lg_sela.specs.Stores.{a64_stores};
 ghost use Rattle.lg_sela_values.specs.Items.{words_in};
 ghost use Rattle.lg_carry.specs.Values.Parts.{HaveSlots};
 
@@ -66,7 +66,7 @@ impl Backend for Aarch64 {
 
     type List = Items<Item>;
 
-    ghost target = { Target.Aarch64 };
+    ghost code = { a64_code };
 
     ghost needed = { needs };
 

@@ -6,8 +6,8 @@ ghost use Rattle.lg_op.specs.Nodes.{InForm};
 ghost use Rattle.lg_live.specs.RegSets.{has};
 ghost use Rattle.lg_sel.specs.Selected.{IsFrame, AreFirst, is_pusharg, TakesLabelsWell};
 ghost use Rattle.lg_sel.specs.Promises.{IsAppended};
+ghost use Rattle.lg_sela.specs.Code.{a64_code};
 ghost use Rattle.lg_sela.specs.Selected.{AreChosen};
-ghost use Rattle.lg_base.specs.declared.target.Target.{Target};
 
 use crate::items::Aarch64;
 use lg_buf::CodeBuf;
@@ -51,7 +51,7 @@ pub fn select(
     ensures refused { result ≡ false → (buf.new ≡ buf.old) × (buf.old.capacity < length buf.old.bytes + 256) }
     ensures one_fix { buf.old.room ≤ buf.new.room + 1 }
     ensures others { buf.new ≡ record buf.old { bytes = buf.new.bytes; fixes = buf.new.fixes; room = buf.new.room } }
-    ensures appended { IsTrue result → IsAppended Target.Aarch64 node.now frame 16 3 (has live_after) staged.arguments choices.now buf.old buf.new }
+    ensures appended { IsTrue result → IsAppended a64_code node.now frame 16 3 (has live_after) staged.arguments choices.now buf.old buf.new }
 {
     let site = Site {
         frame: Frame {

@@ -201,9 +201,7 @@ wide-items-good o d e a (operand.Slot j) h i k = after-good link (operand.Slot j
 register-fine : (x : Operand) → Fine (register_for Aarch64 x)
 register-fine (operand.Reg r) = let l = register-small r in (omega (arith, l), portable r)
 register-fine (operand.Number v) = (omega arith, refl)
-register-fine (operand.Host name) = (omega arith, refl)
-register-fine (operand.Label l) = (omega arith, refl)
-register-fine (operand.Slot k) = (omega arith, refl)
+register-fine x = (omega arith, refl)
 
 fine-at : (xs : List Operand) (i : ℕ) → Fine (register_in xs i)
 fine-at xs i = register-fine (operand_in xs i)

@@ -2,7 +2,6 @@
 use Rattle.std.proofs.Common.{◌≡◌, ℕ, ◌/◌, ◌%◌, ◌^◌, ◌<◌, Bool, true, false, List, [], ◌∷◌, ◌++◌, refl, arith}
 use Rattle.std.specs.Prelude.{◌==◌, nat_lt, if◌then◌else◌}
 use Rattle.lg_sela_values.specs.Processor.Numbers.{quarter_code, first_code, second_code, third_code, fourth_code, is_low, positive_code, number_code}
-use Rattle.lg_sela_values.specs.Processor.Destinations.{WritesWithin}
 use Rattle.lg_sela_values.specs.Processor.A64Rows.{is_straight}
 use Rattle.lg_a64.specs.declared.instruction.Instr.{Instr}
 use Rattle.lg_a64.specs.declared.instruction.Instr.TheVariants.{Wide}
@@ -15,14 +14,10 @@ use Rattle.lg_sela_values.specs.declared.items.Item.{Item}
 use Rattle.lg_sela_values.specs.declared.items.Item.TheVariants.{One, Branch, CondBranch, Address}
 use Rattle.lg_sela_values.specs.Items.{a64_holes, settle, ones, IsItem, StaysWithin}
 use Rattle.lg_sela_values.specs.GoodItems.{Fine, IsGood, AreGood, IsGoodItem, GoodItemsAreAppendable}
-use Rattle.lg_sela_values.proofs.WithinLemmas.{Within}
 
 -- ---- instructions
 pub good-append : (xs ys : List Instr) → AreGood xs → AreGood ys → AreGood (xs ++ ys)
 good-append = lists.each-append IsGood
-
-pub within-of : (is : List Instr) → AreGood is → Within is
-within-of = lists.each-weaker IsGood (WritesWithin false) (λ i h. h.1)
 
 -- the link, x30
 pub link-fine : Fine 30

@@ -18,7 +18,7 @@ use Rattle.lg_a64.specs.Spelling.{word_of, IsInstr}
 use Rattle.lg_a64.specs.declared.instruction.BranchOp.{BranchOp}
 use Rattle.lg_a64.specs.declared.instruction.BranchOp.TheVariants.{B, Bl}
 use Rattle.lg_a64.specs.declared.instruction.Cond.{Cond}
-use Rattle.lg_a64.specs.declared.instruction.Cond.TheVariants.{Eq, Ne, Cs, Cc, Mi, Pl, Vs, Vc, Hi, Ls, Ge, Lt, Gt, Le}
+use Rattle.lg_a64.specs.declared.instruction.Cond.TheVariants.{Eq}
 use Rattle.lg_a64.specs.declared.instruction.Instr.TheVariants.{Wide, Branch, BranchIf}
 use Rattle.lg_a64.specs.declared.instruction.WideOp.TheVariants.{Movz, Movk}
 use Rattle.lg_sela_values.specs.Items.{words_between, low_quarter, next_quarter}
@@ -63,19 +63,7 @@ field-range half bits h = cases (nat_lt bits half) refl
 
 small-number : (c : Cond) → (cond_row c).word < 14
 small-number Eq = omega arith
-small-number Ne = omega arith
-small-number Cs = omega arith
-small-number Cc = omega arith
-small-number Mi = omega arith
-small-number Pl = omega arith
-small-number Vs = omega arith
-small-number Vc = omega arith
-small-number Hi = omega arith
-small-number Ls = omega arith
-small-number Ge = omega arith
-small-number Lt = omega arith
-small-number Gt = omega arith
-small-number Le = omega arith
+small-number o = omega arith
 
 -- a conditional branch
 cond-word : (w n f : ℕ) → w < 2 ^ 32 → n < 14 → cond_rest w ≡ cond_rest (0x54000000 + n + 0 * 2 ^ 5) → f ≡ part 5 19 w → 0x54000000 + n + f * 2 ^ 5 ≡ w

@@ -127,15 +127,11 @@ are-holes = record {
 
     counted : (to : ℕ → ℕ) (at : ℕ) (x : Item) → IsItem x → length (settle to at x) ≡ words_of x
     counted to at (One i) ok = refl
-    counted to at (Branch op label) ok = refl
-    counted to at (CondBranch cond label) ok = refl
-    counted to at (Address rd label) ok = refl
+    counted to at o ok = refl
 
     long : (to : ℕ → ℕ) (at : ℕ) (x : Item) → IsItem x → length (spellings spelling (settle to at x)) ≡ length (a64_holes.blank x)
     long to at (One i) ok = refl
-    long to at (Branch op label) ok = refl
-    long to at (CondBranch cond label) ok = refl
-    long to at (Address rd label) ok = refl
+    long to at o ok = refl
 
     settles : (labels : List (Option ℕ)) (emitted finished : List ℕ) (to : ℕ → ℕ) (place : ℕ) (x : Item) → IsItem x → HaveAddresses labels to → IsPatched a64_holes labels emitted finished place x
         → IsSettled spelling IsInstr finished place (place + length (a64_holes.blank x)) (settle to (code_base + place) x)

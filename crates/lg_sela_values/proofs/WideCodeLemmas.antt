@@ -1,5 +1,5 @@
 -- What the code of the operations with two results computes.
-use Rattle.std.proofs.Common.{◌≡◌, ◌≢◌, ℕ, ◌^◌, ◌<◌, Bool, true, false, Some, refl, sym, ap, ◌∙◌, arith, length}
+use Rattle.std.proofs.Common.{◌≡◌, ◌≢◌, ℕ, ◌^◌, ◌<◌, Bool, true, false, Some, refl, sym, ap, ◌∙◌, arith}
 use Rattle.std.specs.Prelude.{◌==◌, not, bit_or}
 use Rattle.std.specs.Int.Bits.{or_zero_l}
 use Rattle.lg_base.specs.Words.{add_words, mul_words, sub_words, high_product, high_product_signed, quotient, quotient_signed, remainder, remainder_signed}
@@ -73,9 +73,7 @@ kept w x y z d e r nd ne nl = write-other (write (write w 30 x) e y) d z r nd �
 
 pub wide-keeps : (o : WideOp) (d e a b : ℕ) (w : Held) (r : ℕ) → r ≢ d → r ≢ e → r ≢ 30 → (computed (wide_code o d e a b) w).registers r ≡ w.registers r
 wide-keeps wide.Mul d e a b w r nd ne nl = kept w.registers _ _ _ d e r nd ne nl
-wide-keeps wide.MulU d e a b w r nd ne nl = kept w.registers _ _ _ d e r nd ne nl
-wide-keeps wide.Div d e a b w r nd ne nl = kept w.registers _ _ _ d e r nd ne nl
-wide-keeps wide.DivU d e a b w r nd ne nl = kept w.registers _ _ _ d e r nd ne nl
+wide-keeps o d e a b w r nd ne nl = kept w.registers _ _ _ d e r nd ne nl
 
 pub wide-computes : (o : WideOp) (d e a b : ℕ) → all_compute (wide_code o d e a b) ≡ true
 wide-computes wide.Mul d e a b = refl

@@ -10,7 +10,7 @@ use Rattle.lg_carry.specs.Outside.{is_outside, written_registers}
 use Rattle.lg_sela_values.specs.Processor.Destinations.{WritesWithin, IsWithin, destination, branch_destination, written, reg_destination}
 use Rattle.lg_sela_values.specs.Processor.Numbers.{quarter_code, first_code, second_code, third_code, fourth_code, is_low, positive_code, number_code}
 use Rattle.lg_op.specs.declared.operand.Reg.{Reg}
-use Rattle.lg_op.specs.declared.operand.Reg.TheVariants.{R0, R1, R2, V0, V1, V2, Fp}
+use Rattle.lg_op.specs.declared.operand.Reg.TheVariants.{R0}
 use Rattle.lg_a64.specs.declared.instruction.Instr.{Instr}
 use Rattle.lg_a64.specs.declared.instruction.Instr.TheVariants.{Wide}
 use Rattle.lg_a64.specs.declared.instruction.WideOp.TheVariants.{Movn, Movk}
@@ -28,12 +28,7 @@ In rd = is_outside Aarch64 false rd ≡ false
 
 pub portable : (r : Reg) → In (register_of Aarch64 r)
 portable R0 = refl
-portable R1 = refl
-portable R2 = refl
-portable V0 = refl
-portable V1 = refl
-portable V2 = refl
-portable Fp = refl
+portable o = refl
 
 -- so may rows that set flags write it
 pub flagged : (rd : ℕ) → In rd → IsWithin false (written rd)

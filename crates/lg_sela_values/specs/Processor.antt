@@ -1,5 +1,6 @@
 pub mod A64Computers
 pub mod A64Rows
+pub mod A64Touched
 pub mod Computations
 pub mod Destinations
 pub mod Numbers

@@ -1,11 +1,7 @@
 -- Items that are appended to others.
-use Rattle.std.proofs.Common.{◌≡◌, ℕ, zero, suc, ◌+◌, ◌-◌, ◌<◌, ◌≤◌, Bool, true, false, List, [], ◌∷◌, ◌++◌, sym, ap, ◌∙◌, arith, length, append_assoc}
-use Rattle.std.specs.Prelude.{if◌then◌else◌, pos}
+use Rattle.std.proofs.Common.{◌≡◌, ℕ, ◌+◌, ◌-◌, ◌≤◌, List, [], ◌++◌, sym, ap, ◌∙◌, arith, length, append_assoc}
 use Rattle.lg_rv.specs.declared.instruction.Instr.{Instr}
-use Rattle.lg_rv.specs.declared.instruction.Instr.TheVariants.{Imm, Shift, Reg}
-use Rattle.lg_rv.specs.declared.instruction.ImmOp.TheVariants.{Andi}
-use Rattle.lg_rv.specs.declared.instruction.ShiftOp.TheVariants.{Slli, Srli}
-use Rattle.lg_rv.specs.declared.instruction.RegOp.TheVariants as row
+use Rattle.lg_rv.specs.declared.instruction.Instr.TheVariants.{Reg}
 use Rattle.lg_selr_values.specs.Processor.Numbers.{number_code}
 use Rattle.lg_selr_values.proofs.OfProcessor.NumberCodeLemmas as numbers
 use Rattle.lg_base.specs.HostNames.{host_address}
@@ -15,7 +11,6 @@ use Rattle.lg_selr_values.specs.ValueItems.{load_items, second_items}
 use Rattle.lg_selr_values.specs.declared.items.Item.{Item}
 use Rattle.lg_selr_values.specs.Items.{words_in, ones}
 use Rattle.lg_selr_values.proofs.ItemLemmas.{words_append, words-ones, ones-append}
-use Rattle.lg_selr_values.specs.UnaryCode.{more_bytes_code}
 
 pub words_more : (xs : List Item) (is : List Instr) → words_in (xs ++ ones is) ≡ words_in xs + length is
 words_more xs is = words_append xs (ones is) ∙ ap (λ n. words_in xs + n) (words-ones is)
@@ -25,11 +20,6 @@ number_few rd v = numbers.number_few rd v
 
 pub ones_twice : (xs : List Item) (is js : List Instr) → (xs ++ ones is) ++ ones js ≡ xs ++ ones (is ++ js)
 ones_twice xs is js = append_assoc xs (ones is) (ones js) ∙ ap (λ ys. xs ++ ys) (sym (ones-append is js))
-
--- one further byte, and the others
-pub more_bytes_again : (d n : ℕ) → 0 < n → more_bytes_code d n ≡ (Shift Srli 1 1 8 ∷ Imm Andi 31 1 (pos 255) ∷ Shift Slli d d 8 ∷ Reg row.Or d d 31 ∷ []) ++ more_bytes_code d (n - 1)
-more_bytes_again d zero h = absurd (omega (arith, h))
-more_bytes_again d (suc n) h = let e : n ≡ suc n - 1 = omega arith in ap (λ k. Shift Srli 1 1 8 ∷ Imm Andi 31 1 (pos 255) ∷ Shift Slli d d 8 ∷ Reg row.Or d d 31 ∷ more_bytes_code d k) e
 
 -- ---- what is appended leaves room
 pub number_words : (xs : List Item) (rd v : ℕ) → words_in (xs ++ ones (number_code rd v)) ≤ words_in xs + 8

@@ -1,11 +1,8 @@
 -- Items whose instructions are in range, within the conventions and followed by the next.
-use Rattle.std.proofs.Common.{◌≡◌, ℕ, Bool, true, false, List, [], ◌∷◌, ◌++◌, refl, arith}
-use Rattle.std.specs.Prelude.{if◌then◌else◌}
+use Rattle.std.proofs.Common.{◌≡◌, ℕ, true, false, List, [], ◌∷◌, ◌++◌, refl, arith}
 use Rattle.std.specs.List.{All}
 use Rattle.std.proofs.lemmas.List.Elements.{All-head, All-tail}
-use Rattle.lg_base.specs.Words.{is_half}
 use Rattle.lg_selr_values.specs.Processor.Numbers.{number_code}
-use Rattle.lg_selr_values.specs.Processor.Destinations.{WritesWithin}
 use Rattle.lg_selr_values.specs.Processor.RvRows.{is_straight}
 use Rattle.lg_selr_values.proofs.OfProcessor.NumberCodeLemmas.{number-fits}
 use Rattle.lg_rv.specs.Spelling.{IsInstr}
@@ -23,9 +20,6 @@ use Rattle.lg_selr_values.proofs.WithinLemmas.{Within, number}
 -- ---- instructions
 pub good-append : (xs ys : List Instr) → AreGood xs → AreGood ys → AreGood (xs ++ ys)
 good-append = lists.each-append IsGood
-
-pub within-of : (is : List Instr) → AreGood is → Within is
-within-of = lists.each-weaker IsGood (WritesWithin false) (λ i h. h.1)
 
 -- x1 and x31
 pub link-fine : Fine 1

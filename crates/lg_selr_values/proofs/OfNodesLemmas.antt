@@ -1,8 +1,8 @@
 -- The items of a node as a block of instructions.
-use Rattle.std.proofs.Common.{◌≡◌, ℕ, ◌<◌, true, List, length, Bool}
+use Rattle.std.proofs.Common.{◌≡◌, ℕ, ◌<◌, true, List, Bool}
 use Rattle.std.specs.Prelude.{slice_get, slice_index}
 use Rattle.std.specs.List.{All}
-use Rattle.lg_carry.specs.Blocks.{spellings, IsBlock}
+use Rattle.lg_carry.specs.Blocks.{IsBlock}
 use Rattle.lg_carry.specs.Carries.{leaps_at}
 use Rattle.lg_carry.specs.FinalNodes.{Code}
 use Rattle.lg_carry.specs.Passages.{IsNodeCode}
@@ -10,14 +10,13 @@ use Rattle.lg_selr_values.specs.Processor.Destinations.{WritesWithin}
 use Rattle.lg_selr_values.specs.Processor.Places.{IsInCode}
 use Rattle.lg_selr_values.proofs.OfProcessor.OutsideLemmas.{instructions-stay}
 use Rattle.lg_selr_values.specs.Processor.RvRows.{rv_rows, is_straight}
-use Rattle.lg_rv.specs.Spelling.{spelling, IsInstr}
+use Rattle.lg_rv.specs.Spelling.{IsInstr}
 use Rattle.lg_sel.proofs.GoodItemLemmas.{good-items-settle}
-use Rattle.lg_sel.proofs.HoleLemmas as holes
 use Rattle.lg_sel.proofs.NodeLemmas as nodes
 use Rattle.lg_sel.specs.GoodItems.{Settles}
 use Rattle.lg_selr_values.specs.declared.items.Item.{Item}
 use Rattle.lg_selr_values.specs.declared.items.Item.TheVariants.{One, Branch, Jump, FarJump, Address}
-use Rattle.lg_selr_values.specs.Items.{rv_holes, IsItem, StaysWithin, words_in, blanks, settled, AreItems, StayWithin}
+use Rattle.lg_selr_values.specs.Items.{rv_holes, IsItem, StaysWithin, words_in, settled, StayWithin}
 use Rattle.lg_selr_values.specs.OfNodes.{AreOfNode}
 use Rattle.lg_selr_values.proofs.PatchLemmas.{are-holes}
 
@@ -31,10 +30,6 @@ within moves (Address rd label) to p h = (h, (h, tt))
 
 pub settled-within : (moves : Bool) (to : ℕ → ℕ) (p : ℕ) (xs : List Item) → StayWithin moves xs → All (WritesWithin moves) (settled to p xs)
 settled-within moves to p xs h = good-items-settle rv_holes (StaysWithin moves) (WritesWithin moves) (within moves) xs h to p
-
--- they have as many bytes as were emitted
-pub settled-bytes : (to : ℕ → ℕ) (p : ℕ) (xs : List Item) → AreItems xs → length (spellings spelling (settled to p xs)) ≡ length (blanks xs)
-settled-bytes = holes.settled-bytes rv_holes spelling IsInstr IsItem are-holes
 
 pub items-are-node-code : (code : List ℕ) (trash : ℕ) (c : Code) (i : ℕ) (items : List Item) → AreOfNode code trash c i items → (leaps_at (slice_get c.nodes.nodes i) ≡ true → 0 < words_in items)
     → IsNodeCode (rv_rows code trash) IsInstr c i (settled (slice_index c.addresses) (c.place i) items)

@@ -4,4 +4,5 @@ pub mod Numbers
 pub mod Places
 pub mod RvComputers
 pub mod RvRows
+pub mod RvTouched
 pub mod Touches

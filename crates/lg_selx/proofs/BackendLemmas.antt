@@ -1,43 +1,51 @@
 -- What x86-64 shows of its items, so that `select` keeps its promises.
-use Rattle.std.proofs.Common.{◌≡◌, ℕ, ◌+◌, ◌%◌, true, List, ◌∷◌, [], ◌++◌, length, refl, ap, ◌∙◌, subst, arith}
-use Rattle.std.specs.List.{All}
-use Rattle.std.proofs.lemmas.List.{drop_at}
+use Rattle.std.proofs.Common.{◌≡◌, ℕ, ◌+◌, ◌%◌, true, List, ◌∷◌, [], length, refl, ap, ◌∙◌, subst, arith, ◌<◌, Bool}
 use Rattle.lg_base.specs.declared.target.Target.TheVariants.{X86_64}
-use Rattle.lg_buf.specs.Buffers.{Buffer}
-use Rattle.lg_buf.specs.declared.fixes.Fix.{Fix}
 use Rattle.lg_op.specs.Forms.{is_alignment, forms_of, admit}
 use Rattle.lg_op.specs.Nodes.{InForm}
 use Rattle.lg_op.specs.declared.node.Node.{Node}
 use Rattle.lg_op.specs.declared.op.Op.{Op}
-use Rattle.lg_op.specs.declared.op.Op.TheVariants as op
-use Rattle.lg_op.specs.declared.op.PlainOp.TheVariants as plain
 use Rattle.lg_op.specs.declared.operand.Operand.{Operand}
-use Rattle.lg_op.specs.declared.operand.Operand.TheVariants as operand
 use Rattle.lg_x86.specs.Spelling.{IsInstr, spelling}
-use Rattle.lg_sel.proofs.EmissionLemmas.{stores-counted}
-use Rattle.lg_sel.proofs.LabelLemmas.{names}
 use Rattle.lg_sel.proofs.PlaceLemmas.{and-first}
-use Rattle.lg_sel.proofs.SelectionLemmas.{selected-shortest, selected-ahead}
-use Rattle.lg_sel.proofs.StoreLemmas.{allowed}
 use Rattle.lg_sel.specs.Backends.{IsBackend}
-use Rattle.lg_sel.specs.Selected.{IsAligned, IsFixOf}
-use Rattle.lg_sel.specs.Stores.{x86_stores}
+use Rattle.lg_sel.specs.Selected.{IsAligned}
+use Rattle.lg_selx.specs.Stores.{x86_stores}
 use Rattle.lg_sel.specs.declared.reach.Reach.{Reach}
 use Rattle.lg_sel.specs.declared.site.Site.{Site}
-use Rattle.lg_selx.proofs.CarriedLemmas.{x86-selection, selected-carries, appended-lead}
 use Rattle.lg_selx.proofs.Emissions.{Names}
-use Rattle.lg_selx.proofs.NodeFits.{items-fit, node-emits}
+use Rattle.lg_selx.proofs.NodeFits.{families-emit, families-fit, families-stay}
 use Rattle.lg_selx.proofs.NeedLemmas.{choices-fit, store-choice}
 use Rattle.lg_selx.proofs.OfControl.AlignLemmas.{alignments-align}
 use Rattle.lg_selx.proofs.ShortLemmas.{node-short, node-ahead}
 use Rattle.lg_selx.specs.Control.Alignments.{align_code}
-use Rattle.lg_selx.specs.Items.{site_items, IsGiven}
+use Rattle.lg_selx.specs.Code.{x86_code}
+use Rattle.lg_selx.specs.Items.{site_items, IsGiven, x86_families, node_items}
 use Rattle.lg_selx.specs.Selected.{needs}
 use Rattle.lg_selx.proofs.OfControl.ControlLemmas.{blanks-ones}
 use Rattle.lg_carry.specs.Blocks.{spellings}
 use Rattle.lg_selx_values.proofs.PatchLemmas.{are-holes}
-use Rattle.lg_selx_values.specs.Items.{x86_holes, IsItem, NamesOneOf, blanks, fixes_of, ones}
+use Rattle.lg_selx_values.specs.Items.{x86_holes, IsItem, NamesOneOf, blanks, ones, StaysWithin}
 use Rattle.lg_selx_values.specs.declared.items.Item.{Item}
+use Rattle.lg_carry.specs.Carries.{moves_at}
+use Rattle.lg_node.specs.Functions.{is_prolog}
+use Rattle.lg_sel.proofs.FamilyLemmas.{node_of}
+use Rattle.lg_selx.proofs.NodeLemmas.{families}
+use Rattle.lg_temp.specs.declared.choice.Choice.{Choice}
+use Rattle.lg_selx_values.specs.Processor.Destinations.{WritesWithin}
+use Rattle.lg_selx_values.specs.Processor.X86Rows.{x86_rows}
+use Rattle.lg_selx_values.proofs.OfNodesLemmas.{settled-within}
+use Rattle.lg_selx.proofs.SmallLemmas.{items-small}
+use Rattle.lg_sel.proofs.PartLemmas.{HasParts, is-backend}
+use Rattle.lg_selx.proofs.FixLemmas.{leads}
+use Rattle.lg_op.specs.declared.op.Op.TheVariants as op
+use Rattle.lg_op.specs.declared.op.PlainOp.TheVariants as plain
+use Rattle.lg_op.specs.declared.operand.Operand.TheVariants as operand
+
+-- a `prolog` has some
+prolog-some : (homes saved : ℕ) (reach : Reach) (o : Op) (xs : List Operand) (line frame : ℕ) (choices : List Choice) (staged : List Bool) (place : ℕ) → is_prolog o ≡ true → 0 < length (blanks (node_items homes saved reach (node_of o xs line) frame choices staged place))
+prolog-some homes saved reach (op.Plain plain.Prolog) xs line frame choices staged place is = omega arith
+prolog-some homes saved reach o xs line frame choices staged place is = cc
 
 -- after an `.align` the place is a multiple of its number
 aligned : (reach : Reach) (node : Node) (site : Site) (place : ℕ) → InForm node → place % 1 ≡ 0 → IsAligned node (place + length (blanks (site_items reach node site place)))
@@ -49,38 +57,32 @@ aligned reach node site place formed even n is xs =
     ap (λ (k : ℕ). k % n) (ap (λ (ys : List Item). place + length (blanks ys)) same ∙ ap (λ (k : ℕ). place + k) spelled)
     ∙ alignments-align place n (and-first (is_alignment n) true admitted)
 
-pub x86-backend : IsBackend X86_64 needs spelling IsInstr x86_stores x86_holes IsItem NamesOneOf IsGiven site_items
-x86-backend = record {
+x86-parts : HasParts x86_code needs spelling IsInstr x86_stores x86_holes IsItem NamesOneOf IsGiven x86_families x86_rows WritesWithin StaysWithin Names
+x86-parts = record {
   holes = are-holes;
   given = λ n live site formed chosen first.
       let fit = choices-fit n live site.staged.arguments site.choices chosen in
       record { formed = formed; few = fit.0; stores = store-choice n live site.staged.arguments site.choices chosen; slots = fit.1; first = first };
-  emittable = λ reach n live site labels place asked few.
-      let fit = items-fit site.frame.homes site.frame.saved reach site.frame.size live site.staged.arguments site.choices labels place n site.frame.is_frame asked in
-      record { instrs = fit.instrs; names = fit.names; fixed = fit.fixed; small = fit.small };
-  whole = λ reach n site place even. omega arith;
-  begins = λ reach n site place prolog.
-      (x86-selection site.frame.homes site.frame.saved).begins reach n.op n.operands n.line site.frame.size site.choices site.staged.arguments place prolog;
+  emit = families-emit;
+  fit = families-fit;
+  stay = families-stay;
+  small = λ reach n live site labels place asked few. items-small site.frame.homes site.frame.saved reach site.frame.size site.frame.is_frame live site.staged.arguments site.choices labels place n asked;
+  whole = λ x place even. omega arith;
+  leads = leads;
+  begins = λ reach n site place is.
+      prolog-some site.frame.homes site.frame.saved reach n.op n.operands n.line site.frame.size site.choices site.staged.arguments place is;
   aligned = aligned;
-  lead = λ reach n site old even checked.
-      let fixes : List Fix = fixes_of (length old.bytes) (site_items reach n site (length old.bytes)) in
-      let new : Buffer = record old { fixes = old.fixes ++ fixes } in
-      subst (All (IsFixOf 1 old n)) (drop_at old.fixes fixes (length old.fixes) refl)
-      (appended-lead n old site.frame.homes site.frame.saved reach site.frame.size site.choices site.staged.arguments new (site_items reach n site (length old.bytes)) refl refl checked);
-  stores = λ reach n site place to at.
-      stores-counted x86_holes x86_stores (Names reach (names n.operands)) 1 (allowed X86_64 site.frame.homes site.frame.saved site.choices n.op) (site_items reach n site place)
-      (node-emits site.frame.homes site.frame.saved reach site.frame.size site.choices site.staged.arguments place n) to at;
   instructions = λ bytes h. h;
   sparing = λ most bytes h. h;
-  shortest = λ reach n site live old new s.
-      selected-shortest (x86-selection site.frame.homes site.frame.saved) reach n site.frame.size live site.staged.arguments site.choices old new
-      (site_items reach n site (length old.bytes)) site.frame.is_frame s.asked refl s.appended
-      (λ code d i goal f. node-short old new code d i f goal site.frame.size site.frame.homes site.frame.saved) s.checked s.least;
-  ahead = λ reach n site live old new s.
-      selected-ahead (x86-selection site.frame.homes site.frame.saved) reach n site.frame.size live site.staged.arguments site.choices old new
-      (site_items reach n site (length old.bytes)) site.frame.is_frame s.asked refl s.appended
-      (λ code d i f. node-ahead old new code d i f site.frame.size site.frame.homes site.frame.saved) s.checked s.ahead;
-  carries = λ reach n site live old new s.
-      selected-carries site.frame.homes site.frame.saved reach n site.frame.size live site.staged.arguments site.choices old new
-      (site_items reach n site (length old.bytes)) site.frame.is_frame s.asked refl s.few s.appended;
+  short = λ old new code c i goal f. node-short old new code c i f goal;
+  ahead = λ old new code c i f. node-ahead old new code c i f;
+  holes_in = λ code trash. are-holes;
+  finished = λ old new code trash c i f. f;
+  is_place = λ code trash place whole. refl;
+  settle = λ code trash n. settled-within (moves_at X86_64 n);
+  carry = λ reach code trash c i live site.
+      families reach code trash c i site.frame.size site.frame.homes site.frame.saved site.frame.is_frame live site.staged.arguments site.choices;
 }
+
+pub x86-backend : IsBackend x86_code needs spelling IsInstr x86_stores x86_holes IsItem NamesOneOf IsGiven site_items
+x86-backend = is-backend x86_code needs spelling IsInstr x86_stores x86_holes IsItem NamesOneOf IsGiven x86_families x86_rows WritesWithin StaysWithin Names x86-parts

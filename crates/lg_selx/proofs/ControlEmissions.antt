@@ -20,7 +20,8 @@ use Rattle.lg_op.specs.declared.operand.Operand.TheVariants as operand
 use Rattle.lg_op.specs.declared.operand.Reg.{Reg}
 use Rattle.lg_sel.proofs.LabelLemmas.{Passes, AllPass}
 use Rattle.lg_sel.proofs.StoreLemmas as stores
-use Rattle.lg_sel.specs.Stores.{x86_stores, own_stores}
+use Rattle.lg_sel.specs.Stores.{own_stores}
+use Rattle.lg_selx.specs.Stores.{x86_stores}
 use Rattle.lg_sel.specs.declared.reach.Reach.{Reach}
 use Rattle.lg_sel.specs.declared.reach.Reach.TheVariants as reaches
 use Rattle.lg_selx.proofs.Emissions.{Names, NoneStores, Keeps, keep-none, number-keeps, Emits, none, more, instructions, plain, number, address, jump, front, behind}
@@ -118,13 +119,11 @@ prolog-few frame homes saved =
 -- the label of a jump is named
 kind-named : (reach : Reach) (is : ℕ → Bool) (holds : Cond) (l : Label) → is l.0 ≡ true → Names reach is (Jump (jump_kind reach holds) l.0)
 kind-named reaches.Short is holds l h = h
-kind-named reaches.Near is holds l h = h
-kind-named reaches.Far is holds l h = h
+kind-named o is holds l h = h
 
 plain-named : (reach : Reach) (is : ℕ → Bool) (l : Label) → is l.0 ≡ true → Names reach is (Jump (plain_kind reach) l.0)
 plain-named reaches.Short is l h = h
-plain-named reaches.Near is l h = h
-plain-named reaches.Far is l h = h
+plain-named o is l h = h
 
 -- ---- items
 module _ (reach : Reach) (is : ℕ → Bool) where

@@ -5,7 +5,7 @@ use Rattle.lg_base.specs.Words.{signed_view, is_half}
 use Rattle.lg_selx_values.specs.Processor.Numbers.{number_row}
 use Rattle.lg_sel.proofs.EmissionLemmas as emission
 use Rattle.lg_sel.proofs.StoreLemmas as stores
-use Rattle.lg_sel.specs.Stores.{x86_stores}
+use Rattle.lg_selx.specs.Stores.{x86_stores}
 use Rattle.lg_sel.specs.Holes.{Each}
 use Rattle.lg_sel.specs.declared.reach.Reach.{Reach}
 use Rattle.lg_sel.specs.declared.reach.Reach.TheVariants as reaches
@@ -86,9 +86,7 @@ module _ (reach : Reach) (is : ℕ → Bool) where
     where
       stores-none : (kind : JumpKind) (to : ℕ → ℕ) (at : ℕ) → stores.stores_among x86_stores (x86_holes.settle to at (Jump kind label)) ≤ 0
       stores-none (Near op) to at = omega arith
-      stores-none (NearIf cond) to at = omega arith
-      stores-none Short to at = omega arith
-      stores-none (ShortIf cond) to at = omega arith
+      stores-none o to at = omega arith
 
   -- with plain instructions in front of items, and after them
   pub front : (f s : ℕ) (code : List Instr) (ys : List Item) → NoneStores code → Emits f s ys → Emits f s (ones code ++ ys)

@@ -1,8 +1,7 @@
-pub mod CarriedLemmas
+pub mod BackendLemmas
 pub mod ControlEmissions
 pub mod Emissions
-pub mod FinishedLemmas
-pub mod BackendLemmas
+pub mod FixLemmas
 pub mod MemoryEmissions
 pub mod NeedLemmas
 pub mod NodeFits

@@ -1,33 +1,30 @@
 -- The items of each node can be appended to a buffer, and write no register that is outside of the conventions.
-use Rattle.std.proofs.Common.{ℕ, ◌<◌, ◌≤◌, Bool, List, [], length, arith}
-use Rattle.lg_carry.specs.Outside.{moves_stack}
+use Rattle.std.proofs.Common.{ℕ, ◌<◌, Bool, List, [], arith}
 use Rattle.lg_base.specs.declared.target.Target.TheVariants.{X86_64}
 use Rattle.lg_op.specs.declared.node.Node.{Node}
 use Rattle.lg_op.specs.declared.op.Op.TheVariants as op
 use Rattle.lg_op.specs.declared.operand.Reg.{Reg}
 use Rattle.lg_meaning.specs.Steps.{operand_at}
-use Rattle.lg_sel.proofs.LabelLemmas.{names, all-self}
+use Rattle.lg_sel.proofs.LabelLemmas.{names}
 use Rattle.lg_sel.proofs.NodeEmissionLemmas as emission
 use Rattle.lg_sel.proofs.NodeFitLemmas as fit
 use Rattle.lg_sel.proofs.NodeFitLemmas.{passed}
-use Rattle.lg_sel.proofs.StoreLemmas.{allowed}
 use Rattle.lg_sel.proofs.OperandLemmas.{word-is}
 use Rattle.lg_carry.specs.Nodes.Operands.{HaveWords, NameBelow}
 use Rattle.lg_sel.specs.Selected.{IsFrame}
-use Rattle.lg_sel.specs.Stores.{x86_stores}
+use Rattle.lg_selx.specs.Stores.{x86_stores}
 use Rattle.lg_sel.specs.declared.reach.Reach.{Reach}
 use Rattle.lg_selx.proofs.ControlEmissions.{controls-emit}
-use Rattle.lg_selx.proofs.Emissions.{Names, Emits, more}
+use Rattle.lg_selx.proofs.Emissions.{Names, more}
 use Rattle.lg_selx.proofs.MemoryEmissions.{loads-emit, stores-emit, arguments-emit, next-arguments-emit, pushes-emit}
 use Rattle.lg_carry.proofs.OfNodes.GivenLemmas.{are-given}
 use Rattle.lg_selx.proofs.NeedLemmas.{value-is-none, made-values, made-access}
-use Rattle.lg_selx.proofs.SmallLemmas.{items-small}
 use Rattle.lg_selx.proofs.ValueEmissions.{values-emit}
-use Rattle.lg_selx.specs.Items.{x86_families, node_items}
-use Rattle.lg_selx.specs.Selected.{needs, IsAsked}
+use Rattle.lg_selx.specs.Items.{x86_families}
+use Rattle.lg_selx.specs.Selected.{needs}
 use Rattle.lg_selx.proofs.OfControl.FitLemmas.{control-items-fit}
 use Rattle.lg_selx.proofs.OfControl.WithinLemmas.{control-items-stay}
-use Rattle.lg_selx_values.specs.Items.{ones, x86_holes, IsItem, NamesOneOf, StaysWithin, StayWithin, blanks, fixes_of, AreItems, NameLabels}
+use Rattle.lg_selx_values.specs.Items.{ones, x86_holes, IsItem, NamesOneOf, StaysWithin}
 use Rattle.lg_selx_values.specs.declared.items.Item.{Item}
 use Rattle.lg_selx.proofs.OfMemory.FitLemmas.{memory-items-fit}
 use Rattle.lg_selx.proofs.OfMemory.WithinLemmas.{memory-items-name, memory-items-stay}
@@ -40,7 +37,7 @@ use Rattle.lg_temp.specs.Chosen.{around, spills}
 use Rattle.lg_temp.specs.declared.choice.Choice.{Choice}
 
 -- ---- labels, fixes and stores
-families-emit : (homes saved : ℕ) (reach : Reach) → emission.FamiliesEmit X86_64 homes saved x86_holes x86_stores (Names reach) (x86_families homes saved reach)
+pub families-emit : (homes saved : ℕ) (reach : Reach) → emission.FamiliesEmit X86_64 homes saved x86_holes x86_stores (Names reach) (x86_families homes saved reach)
 families-emit homes saved reach = record {
   values = λ is frame n choices h. values-emit reach is frame n choices h;
   loads = λ is frame t at n choices. more reach is 1 1 0 (spills choices) (ones (load_code frame t at n)) (omega arith) (omega arith) (loads-emit reach is frame t at n);
@@ -50,9 +47,6 @@ families-emit homes saved reach = record {
   pushes = λ is frame j n h. pushes-emit reach is frame j n h;
   controls = λ is o xs frame at. controls-emit reach is o xs frame homes saved at;
 }
-
-pub node-emits : (homes saved : ℕ) (reach : Reach) (frame : ℕ) (choices : List Choice) (staged : List Bool) (place : ℕ) (n : Node) → Emits reach (names n.operands) 1 (allowed X86_64 homes saved choices n.op) (node_items homes saved reach n frame choices staged place)
-node-emits homes saved reach frame choices staged place n = emission.node-emits X86_64 homes saved x86_holes x86_stores (Names reach) (x86_families homes saved reach) (families-emit homes saved reach) frame choices staged place n (names n.operands) (all-self n.operands)
 
 -- ---- ranges
 abbrev Fit : ℕ → ℕ → Reach → ℕ → List Item → Type 0
@@ -70,7 +64,7 @@ values homes saved reach labels frame n live set choices sized are named words =
 frame-small : (frame : ℕ) → IsFrame frame → frame < 0x40000000
 frame-small frame sized = let h = sized.high in omega (arith, h)
 
-families-fit : (homes saved : ℕ) (reach : Reach) (labels : ℕ) → fit.FamiliesFit X86_64 needs (x86_families homes saved reach) IsItem NamesOneOf labels
+pub families-fit : (homes saved : ℕ) (reach : Reach) (labels : ℕ) → fit.FamiliesFit X86_64 needs (x86_families homes saved reach) IsItem NamesOneOf labels
 families-fit homes saved reach labels = record {
   values = λ frame n live set choices sized is are named words. values homes saved reach labels frame n live set choices sized (made-values n live set choices (value-is-none n.op is) are) named words;
   loads = λ frame n t at live set choices sized e are words. record { instrs = (memory-items-fit.loads frame t at n (frame-small frame sized) words).appendable.fit; names = memory-items-name.loads labels frame t at n };
@@ -89,20 +83,8 @@ families-fit homes saved reach labels = record {
       record { instrs = emitted.items; names = emitted.labels };
 }
 
--- the items can be appended, with at most one fix and 256 bytes
-pub record AreEmittable (labels : ℕ) (items : List Item) : Type 0 where
-  pub instrs : AreItems items
-  pub names : NameLabels labels items
-  pub fixed : (p : ℕ) → length (fixes_of p items) ≤ 1
-  pub small : length (blanks items) ≤ 256
-
-pub items-fit : (homes saved : ℕ) (reach : Reach) (frame : ℕ) (live : Reg → Bool) (staged : List Bool) (choices : List Choice) (labels place : ℕ) (n : Node) → IsFrame frame → IsAsked n live staged choices labels → AreEmittable labels (node_items homes saved reach n frame choices staged place)
-items-fit homes saved reach frame live staged choices labels place n sized k =
-    let fits = fit.items-fit X86_64 needs (x86_families homes saved reach) IsItem NamesOneOf labels (families-fit homes saved reach labels) frame sized live staged choices place n k in
-    record { instrs = fits.instrs; names = fits.names; fixed = (node-emits homes saved reach frame choices staged place n).fixed; small = items-small homes saved reach frame sized live staged choices labels place n k }
-
 -- ---- registers
-families-stay : (homes saved : ℕ) (reach : Reach) → fit.FamiliesStay X86_64 needs (x86_families homes saved reach) StaysWithin
+pub families-stay : (homes saved : ℕ) (reach : Reach) → fit.FamiliesStay X86_64 needs (x86_families homes saved reach) StaysWithin
 families-stay homes saved reach = record {
   values = λ frame n live set choices is are. value-items-stay frame n live set choices (made-values n live set choices (value-is-none n.op is) are);
   loads = λ frame t at n live set choices e are. memory-items-stay.loads frame t at n;
@@ -112,7 +94,3 @@ families-stay homes saved reach = record {
   pushes = λ frame j n. memory-items-stay.pushes frame j n;
   controls = λ n frame place. control-items-stay reach n frame homes saved place;
 }
-
-pub items-within : (homes saved : ℕ) (reach : Reach) (frame : ℕ) (live : Reg → Bool) (staged : List Bool) (choices : List Choice) (labels place : ℕ) (n : Node) → IsAsked n live staged choices labels → StayWithin (moves_stack X86_64 n.op) (node_items homes saved reach n frame choices staged place)
-items-within homes saved reach frame live staged choices labels place n k =
-    fit.items-stay X86_64 needs (x86_families homes saved reach) StaysWithin (families-stay homes saved reach) frame live k.chosen.set staged choices place n (fit.are-made X86_64 needs (x86_families homes saved reach) n live staged choices labels k)

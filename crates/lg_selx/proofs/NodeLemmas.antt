@@ -1,8 +1,7 @@
 -- Each node is carried by its items.
-use Rattle.std.proofs.Common.{◌≡◌, ℕ, ◌+◌, ◌<◌, Bool, true, false, List, refl, sym, ap, subst, ◌∙◌, arith}
+use Rattle.std.proofs.Common.{◌≡◌, ℕ, ◌<◌, Bool, true, false, List, refl, sym, ap, subst, ◌∙◌, arith}
 use Rattle.std.specs.Prelude.{slice_get, slice_index}
 use Rattle.std.specs.List.{list_any}
-use Rattle.lg_base.specs.Layout.{code_base}
 use Rattle.lg_base.specs.declared.target.Target.TheVariants.{X86_64}
 use Rattle.lg_op.specs.Forms.{forms_of}
 use Rattle.lg_op.specs.declared.node.Node.{Node}
@@ -24,16 +23,17 @@ use Rattle.lg_node.specs.Preparations.{pushed}
 use Rattle.lg_selx_values.specs.Processor.Places.{IsInCode}
 use Rattle.lg_selx_values.specs.Processor.X86Rows.{x86_processor, x86_rows}
 use Rattle.lg_x86.specs.declared.instruction.Instr.{Instr}
+use Rattle.lg_sel.proofs.PartLemmas as parts
 use Rattle.lg_sel.proofs.CountLemmas.{count-is}
-use Rattle.lg_sel.proofs.FamilyLemmas.{HoldsOfFamilies, of-node, value-stays}
+use Rattle.lg_sel.proofs.FamilyLemmas.{HoldsOfFamilies, value-stays}
 use Rattle.lg_sel.proofs.OperandLemmas.{has-words, leads_nowhere, unlabelled, no-labels, control-ends, loads-lead, stores-lead, operands-are}
 use Rattle.lg_sel.specs.Families.{staged_count}
 use Rattle.lg_carry.specs.Values.ValueNodes.{is_value}
 use Rattle.lg_carry.specs.Memory.Operands.{is_label}
 use Rattle.lg_sel.specs.declared.reach.Reach.{Reach}
-use Rattle.lg_selx.specs.Items.{x86_families, node_items}
-use Rattle.lg_sel.specs.Selected.{IsFrame, is_pusharg, may_take_label, IsNodeOf}
-use Rattle.lg_selx.specs.Selected.{needs, IsAsked}
+use Rattle.lg_selx.specs.Items.{x86_families}
+use Rattle.lg_sel.specs.Selected.{IsFrame, is_pusharg, may_take_label}
+use Rattle.lg_selx.specs.Selected.{needs}
 use Rattle.lg_selx.proofs.NeedLemmas.{value-is-none, made-values, made-access}
 use Rattle.lg_sel.proofs.NodeFitLemmas.{few-staged}
 use Rattle.lg_carry.proofs.OfNodes.GivenLemmas.{are-given, are-words}
@@ -82,11 +82,8 @@ plain-code code trash c i n is t stays fit a =
     let to : ℕ → ℕ = slice_index c.addresses in
     subst (IsInCode code trash c i) (settled-ones to (c.place i) is) (items-are-in-code code trash c i (ones is) a (falls c i n (ones is) t stays) (fit.block to (c.place i)))
 
--- what is known of a node whose code begins at a place of the buffer
-pub record IsKnown (c : Code) (i : ℕ) (n : Node) (frame homes saved : ℕ) (live : Reg → Bool) (staged : List Bool) (choices : List Choice) (labels place : ℕ) : Type 0 where
-  pub node : IsNodeOf 1 n frame homes saved staged c i
-  pub asked : IsAsked n live staged choices labels
-  pub address : c.place i ≡ code_base + place
+abbrev IsKnown : Code → ℕ → Node → ℕ → ℕ → ℕ → (Reg → Bool) → List Bool → List Choice → ℕ → ℕ → Type 0
+IsKnown c i n frame homes saved live staged choices labels place = parts.IsKnown X86_64 needs c i n frame homes saved live staged choices labels place
 
 -- where one takes no label, no operand may be one
 value-may : (o : Op) → is_value o ≡ true → takes_label o ≡ false → may_take_label o ≡ false
@@ -188,7 +185,7 @@ module _ (reach : Reach) (code : List ℕ) (trash : ℕ) (c : Code) (i frame hom
       control-nodes-carry reach code trash c i n frame homes saved (numbered live) is k.node.places (are-words c.addresses k.node.low n.operands k.asked.words) ends k.node.frame_is
       k.node.homes_are k.node.saved_is k.node.text (subst (λ l. StandsInCode code trash c i (settled to (c.place i) l)) same stands)
 
-  families : HoldsOfFamilies (x86_families homes saved reach) Carries frame choices staged place
+  pub families : HoldsOfFamilies (x86_families homes saved reach) Carries frame choices staged place
   families = record {
     values = λ n is. values n is (value-stays n.op is) (value-may n.op is) (value-leads n.op is);
     loads = loads;
@@ -198,6 +195,3 @@ module _ (reach : Reach) (code : List ℕ) (trash : ℕ) (c : Code) (i frame hom
     pushes = pushes;
     controls = controls;
   }
-
-  pub items-carry : (n : Node) → Carries n (node_items homes saved reach n frame choices staged place)
-  items-carry = of-node (x86_families homes saved reach) Carries frame choices staged place families

@@ -10,9 +10,7 @@ use Rattle.lg_selx_values.specs.ValueLaws.{IsUnlabelled, AreUnlabelled}
 is-unlabelled : (x : Operand) → is_label x ≡ false → IsUnlabelled x
 is-unlabelled (operand.Label l) e = cc
 is-unlabelled (operand.Number v) e = tt
-is-unlabelled (operand.Reg r) e = tt
-is-unlabelled (operand.Host name) e = tt
-is-unlabelled (operand.Slot k) e = tt
+is-unlabelled x e = tt
 
 pub are-unlabelled : (xs : List Operand) → list_any is_label xs ≡ false → AreUnlabelled xs
 are-unlabelled [] e = tt

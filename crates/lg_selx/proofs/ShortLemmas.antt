@@ -35,7 +35,9 @@ use Rattle.lg_sel.proofs.SelectionLemmas as selection
 use Rattle.lg_sel.proofs.FinishedLemmas.{items-lead}
 use Rattle.lg_sel.specs.Finished.{AreAppended}
 use Rattle.lg_sel.specs.Selected.{IsFinished, part_of}
-use Rattle.lg_sel.specs.Shorts.{x86_is_relative, LeadsBy, IsShortJumpIf, IsShortX86Jump, IsShort, IsJumpIfAhead, IsX86JumpAhead, IsAhead}
+use Rattle.lg_sel.specs.Shorts.{LeadsBy, IsShort, IsAhead}
+use Rattle.lg_selx.specs.Code.{x86_code}
+use Rattle.lg_selx.specs.Shorts.{x86_is_relative, IsShortJumpIf, IsShortX86Jump, IsJumpIfAhead, IsX86JumpAhead}
 use Rattle.lg_sel.proofs.OfControl.ControlLemmas.{differ, never, never-sum}
 use Rattle.lg_sel.specs.Holes.{Each}
 use Rattle.lg_sel.specs.Reaches.{may_wait, reach_ahead, Leads, LeadsTo, IsChecked, IsLeast}
@@ -116,8 +118,7 @@ jump-fix r p l = record { place = p + 2; kind = X86Rel32; label = record { 0 = l
 
 jump-fixes : (r : Reach) (p : ℕ) (holds : Cond) (l : Label) → fixes_of p (Jump (jump_kind r holds) l.0 ∷ []) ≡ jump-fix r p l ∷ []
 jump-fixes Short p holds l = refl
-jump-fixes Near p holds l = refl
-jump-fixes Far p holds l = refl
+jump-fixes o p holds l = refl
 
 branch-fixes : (r : Reach) (p : ℕ) (front : List Instr) (holds : Cond) (l : Label)
     → fixes_of p (branch_if_items r front holds l) ≡ jump-fix r (p + length (spellings spelling front)) l ∷ []
@@ -132,8 +133,7 @@ plain-fix r p l = record { place = p + 1; kind = X86Rel32; label = record { 0 = 
 
 plain-fixes : (r : Reach) (p : ℕ) (l : Label) → fixes_of p (jump_items r (operand.Label l ∷ [])) ≡ plain-fix r p l ∷ []
 plain-fixes Short p l = refl
-plain-fixes Near p l = refl
-plain-fixes Far p l = refl
+plain-fixes o p l = refl
 
 -- ---- the branches
 -- items of each reach that lead to a label, the first operand: instructions that do not count from their own place, and a jump on a condition after them
@@ -234,7 +234,7 @@ module _ (old new : Buffer) (code : List ℕ) (c : Code) (i : ℕ) (f : IsFinish
     short : (r : Reach) (o : Op) (xs : List Operand) → IsKnown r o xs → (b : IsBranchTo xs (λ s. control_items s o xs frame homes saved place)) → IsLed (IsShortJumpIf goal)
     short r o xs k b = let L = k.labels b.label b.names in branch-short r xs (λ s. control_items s o xs frame homes saved place) b k.appended k.fit L.0 L.1 k.least
 
-    pub node-short : (r : Reach) (o : Op) (xs : List Operand) (l : Label) → slice_get xs 0 ≡ Some (operand.Label l) → IsKnown r o xs → IsShort X86_64 o goal place part
+    pub node-short : (r : Reach) (o : Op) (xs : List Operand) (l : Label) → slice_get xs 0 ≡ Some (operand.Label l) → IsKnown r o xs → IsShort x86_code o goal place part
     node-short r (op.Branch o last) xs l first k = short r (op.Branch o last) xs k (branch-leads frame o last xs k.admitted)
     node-short r (op.BranchSum o last) xs l first k = short r (op.BranchSum o last) xs k (sum-leads frame o last xs k.admitted)
     node-short r (op.Control control.Jmp last_operand.Immediate) (operand.Label m ∷ []) l first k = jump-short r m k.appended k.fit (k.labels m refl).0 (k.labels m refl).1 k.least
@@ -271,7 +271,7 @@ module _ (old new : Buffer) (code : List ℕ) (c : Code) (i : ℕ) (f : IsFinish
     ahead : (r : Reach) (o : Op) (xs : List Operand) → IsKnownAhead r o xs → IsBranchTo xs (λ s. control_items s o xs frame homes saved place) → IsLed IsJumpIfAhead
     ahead r o xs k b = branch-ahead r xs (λ s. control_items s o xs frame homes saved place) b k.appended k.fit (k.labels b.label b.names) k.checked
 
-    pub node-ahead : (r : Reach) (o : Op) (xs : List Operand) (l : Label) → slice_get xs 0 ≡ Some (operand.Label l) → IsKnownAhead r o xs → IsAhead X86_64 (reach_ahead old.size) o place part
+    pub node-ahead : (r : Reach) (o : Op) (xs : List Operand) (l : Label) → slice_get xs 0 ≡ Some (operand.Label l) → IsKnownAhead r o xs → IsAhead x86_code (reach_ahead old.size) o place part
     node-ahead r (op.Branch o last) xs l first k = ahead r (op.Branch o last) xs k (branch-leads frame o last xs k.admitted)
     node-ahead r (op.BranchSum o last) xs l first k = ahead r (op.BranchSum o last) xs k (sum-leads frame o last xs k.admitted)
     node-ahead r (op.Control control.Jmp last_operand.Immediate) (operand.Label m ∷ []) l first k = jump-ahead r m k.appended k.fit (k.labels m refl) k.checked

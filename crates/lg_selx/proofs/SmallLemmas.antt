@@ -166,11 +166,7 @@ called-small xs = none-small
 
 result-few : (x : Operand) → words_in (result_items x) ≤ 1
 result-few (operand.Reg R0) = omega arith
-result-few (operand.Reg a) = omega arith
-result-few (operand.Label l) = omega arith
-result-few (operand.Number v) = omega arith
-result-few (operand.Host name) = omega arith
-result-few (operand.Slot k) = omega arith
+result-few x = omega arith
 
 return-long : (saved : ℕ) → length (return_code saved) ≤ 6
 return-long saved =

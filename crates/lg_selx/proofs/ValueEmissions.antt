@@ -51,9 +51,7 @@ rows-keep frame = record {
 register-fine : (x : Operand) → Fine (register_for X86_64 x)
 register-fine (operand.Reg r) = ((register-portable r).small, portable r)
 register-fine (operand.Number v) = rax-fine
-register-fine (operand.Host name) = rax-fine
-register-fine (operand.Label l) = rax-fine
-register-fine (operand.Slot k) = rax-fine
+register-fine x = rax-fine
 
 fine-at : (xs : List Operand) (i : ℕ) → Fine (register_in xs i)
 fine-at xs i = register-fine (operand_in xs i)

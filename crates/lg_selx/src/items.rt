@@ -1,13 +1,13 @@
 // The items of a node, and the target that has them.
 
 ghost use Rattle.std.specs.Prelude.{◌≡◌, ◌<◌, ◌≤◌, [], true, length};
-ghost use Rattle.lg_base.specs.declared.target.Target.{Target};
 ghost use Rattle.lg_op.specs.Nodes.{InForm};
 ghost use Rattle.lg_x86.specs.Spelling.{IsInstr, spelling};
+ghost use Rattle.lg_selx.specs.Code.{x86_code};
 ghost use Rattle.lg_selx.specs.Items.{site_items, IsGiven};
 ghost use Rattle.lg_selx.specs.Selected.{needs, is_store};
 ghost use Rattle.lg_sel.specs.Selected.{AreFirst, is_pusharg};
-ghost use Rattle.lg_sel.specs.Stores.{x86_stores};
+ghost use Rattle.lg_selx.specs.Stores.{x86_stores};
 ghost use Rattle.lg_selx_values.specs.Items.{words_in};
 ghost use Rattle.lg_carry.specs.Values.Parts.{HaveSlots};
 
@@ -69,7 +69,7 @@ impl Backend for X86_64 {
 
     type List = Items<Item>;
 
-    ghost target = { Target.X86_64 };
+    ghost code = { x86_code };
 
     ghost needed = { needs };
 

@@ -141,11 +141,6 @@ module _ (a b : ℕ) (h : a < 2 ^ 64) (k : b < 2 ^ 64) where
   not-equal-tells = ap (λ x. Some (not x)) zero
 
 -- ---- shifts
-shift-op : UnaryOp → ShiftOp
-shift-op Shl = Shli
-shift-op Shr = Shri
-shift-op o = Sari
-
 record IsShift (op : UnaryOp) (by : ShiftOp) : Type 0 where
   made : (d : ℕ) (w : ℕ → ℕ) (f : Flags) (bytes : ℕ → Option ℕ) → makes (Unary op d ∷ []) (scene w f bytes) ≡ Some (scene (put w d (shift_value by (w d) (w 1 % 64))) (shift_flags by f (w d) (w 1 % 64)) bytes)
 
@@ -344,9 +339,7 @@ module _ (choices : List Choice) (frame d a b : ℕ) (q : Held) (d5 : d ≢ 5) (
   register-word binary.Eq z p l e = as-word choices (register_code binary.Eq frame d a b) d _ z q (compared-word choices cond.Equal d a b q _ (equal-tells x y (words a) (words b))) (some-same _ z e)
   register-word binary.Ne z p l e = as-word choices (register_code binary.Ne frame d a b) d _ z q (compared-word choices cond.NotEqual d a b q _ (not-equal-tells x y (words a) (words b))) (some-same _ z e)
   register-word binary.Addc z p l e = cc
-  register-word binary.Subc z p l e = cc
-  register-word binary.Addx z p l e = cc
-  register-word binary.Subx z p l e = cc
+  register-word o z p l e = cc
 
 pub binaries-are-made : BinariesAreMade
 binaries-are-made choices frame d a b q d5 d4 d1 a1 a2 f o z plain lends e = register-word choices frame d a b q d5 d4 d1 a1 a2 f.words f.pointer o z plain lends e

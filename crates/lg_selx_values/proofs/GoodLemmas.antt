@@ -15,14 +15,11 @@ use Rattle.lg_selx_values.specs.declared.items.Item.{Item}
 use Rattle.lg_selx_values.specs.declared.items.Item.TheVariants.{One, Jump, Address}
 use Rattle.lg_selx_values.specs.Items.{x86_holes, settle, ones, IsItem, StaysWithin}
 use Rattle.lg_selx_values.specs.GoodItems.{Fine, IsGood, AreGood, IsGoodItem, GoodItemsAreAppendable}
-use Rattle.lg_selx_values.proofs.WithinLemmas.{In, Within}
+use Rattle.lg_selx_values.proofs.WithinLemmas.{In}
 
 -- ---- instructions
 pub good-append : (xs ys : List Instr) → AreGood xs → AreGood ys → AreGood (xs ++ ys)
 good-append = lists.each-append IsGood
-
-pub within-of : (is : List Instr) → AreGood is → Within is
-within-of = lists.each-weaker IsGood (WritesWithin false) (λ i h. h.1)
 
 pub number-within : (r v : ℕ) → In r → WritesWithin false (number_row r v)
 number-within r v h = by (nat_lt v (2 ^ 32)) (is_half v)
@@ -56,6 +53,3 @@ good-items-are-appendable = good_items.good-items-are-appendable x86_holes is_st
 
 pub ones-good : (is : List Instr) → AreGood is → Each IsGoodItem (ones is)
 ones-good = lists.each-ones IsGoodItem One IsGood (λ i h. h)
-
-pub items-good : (xs ys : List Item) → Each IsGoodItem xs → Each IsGoodItem ys → Each IsGoodItem (xs ++ ys)
-items-good = lists.each-append IsGoodItem

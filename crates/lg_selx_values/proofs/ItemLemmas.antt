@@ -1,8 +1,6 @@
 -- Lists of items.
 use Rattle.std.proofs.Common.{◌≡◌, ℕ, ◌+◌, List, [], ◌++◌, length, refl}
-use Rattle.std.specs.List.{All}
 use Rattle.lg_x86.specs.declared.instruction.Instr.{Instr}
-use Rattle.lg_x86.specs.Spelling.{IsInstr}
 use Rattle.lg_sel.proofs.ListLemmas as lists
 use Rattle.lg_selx_values.specs.declared.items.Item.{Item}
 use Rattle.lg_selx_values.specs.declared.items.Item.TheVariants.{One}
@@ -36,9 +34,6 @@ settled-ones = lists.settled-ones x86_holes One (λ to p i. refl)
 
 pub fixes-ones : (p : ℕ) (is : List Instr) → fixes_of p (ones is) ≡ []
 fixes-ones = lists.fixes-ones x86_holes One (λ p i. refl)
-
-pub items-ones : (is : List Instr) → All IsInstr is → AreItems (ones is)
-items-ones = lists.all-ones IsItem One IsInstr (λ i h. h)
 
 pub names-ones : (labels : ℕ) (is : List Instr) → NameLabels labels (ones is)
 names-ones labels = lists.any-ones (NamesOneOf labels) One (λ i. tt)

@@ -72,12 +72,7 @@ register-at n = if n == 0 then 0 else if n == 1 then 10 else if n == 2 then 11 e
 register-by-number : (p : Reg) → register_of X86_64 p ≡ register-at (number_of p)
 unfolding register-at
 register-by-number R0 = refl
-register-by-number R1 = refl
-register-by-number R2 = refl
-register-by-number V0 = refl
-register-by-number V1 = refl
-register-by-number V2 = refl
-register-by-number Fp = refl
+register-by-number o = refl
 
 -- a register of the needs of a node that writes these is taken, or is that of one of them
 pub named-apart : (n : Node) (live : Reg → Bool) (staged : List Bool) (needs : List Need) (choices : List Choice) (x : ℕ) (writes : Reg → Bool) → ((q : Reg) → is_written n q ≡ writes q)

@@ -370,9 +370,7 @@ module _ (choices : List Choice) (frame d a v : ℕ) (q : Held) (d5 : d ≢ 5) (
   number-word binary.Eq z p l e = answered cond.Equal _ z (equal-tells m v (words a) small) e
   number-word binary.Ne z p l e = answered cond.NotEqual _ z (not-equal-tells m v (words a) small) e
   number-word binary.Addc z p l e = cc
-  number-word binary.Subc z p l e = cc
-  number-word binary.Addx z p l e = cc
-  number-word binary.Subx z p l e = cc
+  number-word o z p l e = cc
 
 pub numbers-are-made : NumbersAreMade
 numbers-are-made choices frame d a v q d5 d4 small f o z plain lends e = number-word choices frame d a v q d5 d4 small f.words f.pointer o z plain lends e

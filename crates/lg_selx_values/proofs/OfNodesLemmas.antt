@@ -1,9 +1,9 @@
 -- The items of a node as a block of instructions.
-use Rattle.std.proofs.Common.{◌≡◌, ℕ, ◌+◌, ◌<◌, true, ℤ, List, length, refl, Bool}
+use Rattle.std.proofs.Common.{◌≡◌, ℕ, ◌+◌, ◌<◌, true, ℤ, List, Bool}
 use Rattle.std.specs.Prelude.{slice_get, slice_index, pos, ◌-ℤ◌}
 use Rattle.std.specs.List.{All}
 use Rattle.lg_x86.specs.declared.instruction.JumpNearOp.TheVariants.{Jmp32, Call32}
-use Rattle.lg_carry.specs.Blocks.{spellings, IsBlock}
+use Rattle.lg_carry.specs.Blocks.{IsBlock}
 use Rattle.lg_carry.specs.Carries.{leaps_at}
 use Rattle.lg_carry.specs.FinalNodes.{Code}
 use Rattle.lg_carry.specs.Passages.{IsNodeCode}
@@ -11,16 +11,15 @@ use Rattle.lg_selx_values.specs.Processor.Destinations.{WritesWithin}
 use Rattle.lg_selx_values.specs.Processor.Places.{IsInCode}
 use Rattle.lg_selx_values.proofs.OfProcessor.OutsideLemmas.{instructions-stay}
 use Rattle.lg_selx_values.specs.Processor.X86Rows.{x86_rows, is_straight}
-use Rattle.lg_x86.specs.Spelling.{spelling, IsInstr}
+use Rattle.lg_x86.specs.Spelling.{IsInstr}
 use Rattle.lg_sel.proofs.GoodItemLemmas.{good-items-settle}
-use Rattle.lg_sel.proofs.HoleLemmas as holes
 use Rattle.lg_sel.proofs.NodeLemmas as nodes
 use Rattle.lg_sel.specs.GoodItems.{Settles}
 use Rattle.lg_selx_values.specs.declared.items.Item.{Item}
 use Rattle.lg_selx_values.specs.declared.items.Item.TheVariants.{One, Jump, Address}
 use Rattle.lg_selx_values.specs.declared.items.JumpKind.{JumpKind}
-use Rattle.lg_selx_values.specs.declared.items.JumpKind.TheVariants.{Near, NearIf, Short, ShortIf}
-use Rattle.lg_selx_values.specs.Items.{x86_holes, jump_by, jump_size, IsItem, StaysWithin, words_in, blanks, settled, AreItems, StayWithin}
+use Rattle.lg_selx_values.specs.declared.items.JumpKind.TheVariants.{Near}
+use Rattle.lg_selx_values.specs.Items.{x86_holes, jump_by, jump_size, IsItem, StaysWithin, words_in, settled, StayWithin}
 use Rattle.lg_selx_values.specs.OfNodes.{AreOfNode}
 use Rattle.lg_selx_values.proofs.PatchLemmas.{are-holes}
 
@@ -28,9 +27,7 @@ use Rattle.lg_selx_values.proofs.PatchLemmas.{are-holes}
 jump-within : (moves : Bool) (kind : JumpKind) (y z : ℤ) → WritesWithin moves (jump_by kind y) → WritesWithin moves (jump_by kind z)
 jump-within moves (Near Call32) y z h = h
 jump-within moves (Near Jmp32) y z h = tt
-jump-within moves (NearIf cond) y z h = tt
-jump-within moves Short y z h = tt
-jump-within moves (ShortIf cond) y z h = tt
+jump-within moves o y z h = tt
 
 -- the instructions of items write no register that is outside, where none of the items does
 within : (moves : Bool) → Settles x86_holes (StaysWithin moves) (WritesWithin moves)
@@ -40,10 +37,6 @@ within moves (Address reg label) to p h = ((h, tt), tt)
 
 pub settled-within : (moves : Bool) (to : ℕ → ℕ) (p : ℕ) (xs : List Item) → StayWithin moves xs → All (WritesWithin moves) (settled to p xs)
 settled-within moves to p xs h = good-items-settle x86_holes (StaysWithin moves) (WritesWithin moves) (within moves) xs h to p
-
--- they have as many bytes as were emitted
-pub settled-bytes : (to : ℕ → ℕ) (p : ℕ) (xs : List Item) → AreItems xs → length (spellings spelling (settled to p xs)) ≡ length (blanks xs)
-settled-bytes = holes.settled-bytes x86_holes spelling IsInstr IsItem are-holes
 
 pub items-are-node-code : (code : List ℕ) (trash : ℕ) (c : Code) (i : ℕ) (items : List Item) → AreOfNode code trash c i items → (leaps_at (slice_get c.nodes.nodes i) ≡ true → 0 < words_in items)
     → IsNodeCode (x86_rows code trash) IsInstr c i (settled (slice_index c.addresses) (c.place i) items)

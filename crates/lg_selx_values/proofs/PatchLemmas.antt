@@ -158,9 +158,7 @@ are-holes = record {
 
     long-jump : (kind : JumpKind) (z : ℤ) → length (spelling (jump_by kind z)) ≡ length (spelling (jump_by kind (pos 0)))
     long-jump (Near op) z = refl
-    long-jump (NearIf cond) z = refl
-    long-jump Short z = refl
-    long-jump (ShortIf cond) z = refl
+    long-jump o z = refl
 
     long : (to : ℕ → ℕ) (at : ℕ) (x : Item) → IsItem x → length (spellings spelling (settle to at x)) ≡ length (x86_holes.blank x)
     long to at (One i) ok = ap length (only-spelling i)

@@ -83,9 +83,4 @@ pub record IsPortable (r : ℕ) : Type 0 where
 
 pub register-portable : (d : Reg) → IsPortable (register_of X86_64 d)
 register-portable R0 = record { no_rcx = λ e. absurd (omega (arith, e)); no_rdx = λ e. absurd (omega (arith, e)); no_stack = λ e. absurd (omega (arith, e)); small = omega arith }
-register-portable R1 = record { no_rcx = λ e. absurd (omega (arith, e)); no_rdx = λ e. absurd (omega (arith, e)); no_stack = λ e. absurd (omega (arith, e)); small = omega arith }
-register-portable R2 = record { no_rcx = λ e. absurd (omega (arith, e)); no_rdx = λ e. absurd (omega (arith, e)); no_stack = λ e. absurd (omega (arith, e)); small = omega arith }
-register-portable V0 = record { no_rcx = λ e. absurd (omega (arith, e)); no_rdx = λ e. absurd (omega (arith, e)); no_stack = λ e. absurd (omega (arith, e)); small = omega arith }
-register-portable V1 = record { no_rcx = λ e. absurd (omega (arith, e)); no_rdx = λ e. absurd (omega (arith, e)); no_stack = λ e. absurd (omega (arith, e)); small = omega arith }
-register-portable V2 = record { no_rcx = λ e. absurd (omega (arith, e)); no_rdx = λ e. absurd (omega (arith, e)); no_stack = λ e. absurd (omega (arith, e)); small = omega arith }
-register-portable Fp = record { no_rcx = λ e. absurd (omega (arith, e)); no_rdx = λ e. absurd (omega (arith, e)); no_stack = λ e. absurd (omega (arith, e)); small = omega arith }
+register-portable o = record { no_rcx = λ e. absurd (omega (arith, e)); no_rdx = λ e. absurd (omega (arith, e)); no_stack = λ e. absurd (omega (arith, e)); small = omega arith }

@@ -1,5 +1,5 @@
 -- Nodes of one word, by instructions that only compute.
-use Rattle.std.proofs.Common.{◌≡◌, ℕ, ◌/◌, ◌^◌, ◌<◌, Bool, true, false, List, [], ◌∷◌, ◌++◌, refl, sym, ap, ◌∙◌, length, arith, append-nil}
+use Rattle.std.proofs.Common.{◌≡◌, ℕ, ◌/◌, ◌^◌, ◌<◌, Bool, true, false, List, [], ◌∷◌, ◌++◌, refl, sym, ap, ◌∙◌, arith, append-nil}
 use Rattle.std.specs.Prelude.{◌==◌, ◌&&◌, if◌then◌else◌}
 use Rattle.std.proofs.Math.Nat.{mod-lt}
 use Rattle.lg_base.specs.Flags.{carry_of}
@@ -104,12 +104,7 @@ unary-works unary.HtonrUs d a = works-moved d a (Bswap d ∷ Shift Shri d 48 ∷
 unary-works unary.HtonrUi d a = works-moved d a (Bswap d ∷ Shift Shri d 32 ∷ []) refl
 unary-works unary.HtonrUl d a = works-moved d a (Bswap d ∷ []) refl
 unary-works unary.Mov d a = refl
-unary-works unary.ExtrC d a = refl
-unary-works unary.ExtrUc d a = refl
-unary-works unary.ExtrS d a = refl
-unary-works unary.ExtrUs d a = refl
-unary-works unary.ExtrI d a = refl
-unary-works unary.ExtrUi d a = refl
+unary-works o d a = refl
 
 -- code that puts a word into one register computes into it
 into : (code : List ℕ) (trash : ℕ) (d : Reg) (choices : List Choice) (body : List Instr) (word : Held → ℕ) → Works body → ((w : Held) → (by-all body w).registers ≡ put w.registers (register_of X86_64 d) (word w))

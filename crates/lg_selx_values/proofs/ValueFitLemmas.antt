@@ -50,9 +50,7 @@ use Rattle.lg_selx_values.proofs.RowLemmas.{HoldsOfRows, Holds, rax-fine, binary
 register-fine : (x : Operand) → Fine (register_for X86_64 x)
 register-fine (operand.Reg r) = ((register-portable r).small, portable r)
 register-fine (operand.Number v) = rax-fine
-register-fine (operand.Host name) = rax-fine
-register-fine (operand.Label l) = rax-fine
-register-fine (operand.Slot k) = rax-fine
+register-fine x = rax-fine
 
 fine-at : (xs : List Operand) (i : ℕ) → Fine (register_in xs i)
 fine-at xs i = register-fine (operand_in xs i)
@@ -160,17 +158,12 @@ number-at (x ∷ xs) zero h = by x h.0
     by : (x : Operand) → HasWord x → Has (λ v. v < 2 ^ 64) x
     by (operand.Number v) h = h
     by (operand.Reg r) h = tt
-    by (operand.Host name) h = tt
-    by (operand.Label l) h = tt
-    by (operand.Slot k) h = tt
+    by x h = tt
 number-at (x ∷ xs) (suc i) h = number-at xs i h.1
 
 pub any-number : (x : Operand) → Has (λ v. ⊤) x
 any-number (operand.Number v) = tt
-any-number (operand.Reg r) = tt
-any-number (operand.Host name) = tt
-any-number (operand.Label l) = tt
-any-number (operand.Slot k) = tt
+any-number x = tt
 
 -- each item is spelled in few bytes
 each-short : (frame : ℕ) (n : Node) (choices : List Choice) → AreSaved choices → Each IsShort (value_items frame n choices)

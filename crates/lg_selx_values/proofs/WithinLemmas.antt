@@ -7,7 +7,7 @@ use Rattle.lg_base.specs.declared.target.Target.TheVariants.{X86_64}
 use Rattle.lg_carry.specs.Outside.{is_outside, written_registers}
 use Rattle.lg_selx_values.specs.Processor.Destinations.{WritesWithin, AreWithin, destinations}
 use Rattle.lg_op.specs.declared.operand.Reg.{Reg}
-use Rattle.lg_op.specs.declared.operand.Reg.TheVariants.{R0, R1, R2, V0, V1, V2, Fp}
+use Rattle.lg_op.specs.declared.operand.Reg.TheVariants.{R0}
 use Rattle.lg_x86.specs.declared.instruction.Instr.{Instr}
 use Rattle.lg_sel.proofs.ListLemmas as lists
 use Rattle.lg_sel.specs.Holes.{Each}
@@ -22,12 +22,7 @@ In reg = is_outside X86_64 false reg ≡ false
 
 pub portable : (r : Reg) → In (register_of X86_64 r)
 portable R0 = refl
-portable R1 = refl
-portable R2 = refl
-portable V0 = refl
-portable V1 = refl
-portable V2 = refl
-portable Fp = refl
+portable o = refl
 
 -- ---- lists
 abbrev pub Within : List Instr → Type 0

@@ -6,3 +6,4 @@ pub mod Places
 pub mod Touches
 pub mod X86Computers
 pub mod X86Rows
+pub mod X86Touched

@@ -1,65 +1,24 @@
 -- The operands of an instruction, one after another.
-use Rattle.std.proofs.Common.{◌≡◌, ◌≢◌, ℕ, ◌+◌, ◌<◌, ◌≤◌, Bool, true, false, not, ◌&&◌, List, [], ◌∷◌, ◌++◌, length, length-append, get_or, take, drop, Ok, Err, refl, sym, ap, subst, ◌∙◌, add-one, lit≤, arith}
+use Rattle.std.proofs.Common.{◌≡◌, ◌≢◌, ℕ, ◌+◌, ◌<◌, ◌≤◌, Bool, true, false, not, ◌&&◌, List, [], ◌∷◌, ◌++◌, length, length-append, get_or, take, drop, Ok, Err, refl, sym, ap, subst, ◌∙◌, add-one, arith}
 use Rattle.std.proofs.Math.Seq.{drop-cons, take-suc}
 use Rattle.std.proofs.lemmas.Bool.{false≢true}
-use Rattle.std.proofs.lemmas.List.{drop_all, take_all}
+use Rattle.std.proofs.lemmas.List.{drop_all}
 use Rattle.std.proofs.lemmas.Slice.Eq.{bytes_eq-Decides}
 use Rattle.lg_base.specs.declared.refusal.Refusal.{Refusal}
 use Rattle.lg_lex.specs.declared.token.Token.{Token}
-use Rattle.lg_op.specs.Forms.{forms_of, admits, admit}
-use Rattle.lg_op.specs.Nodes.{InForm, IsApart}
+use Rattle.lg_op.specs.Forms.{admits, admit}
+use Rattle.lg_op.specs.Nodes.{IsApart}
 use Rattle.lg_op.specs.declared.form.Form.{Form}
-use Rattle.lg_op.specs.declared.form.Form.TheVariants.{ArgumentCount, Write}
 use Rattle.lg_op.specs.declared.op.Op.{Op}
 use Rattle.lg_op.specs.declared.op.Op.TheVariants.{Binary, Wide, Branch, BranchSum, Control, Unary, Plain, Load, Store, Retval, Getarg}
-use Rattle.lg_op.specs.declared.op.LastOperand.TheVariants as last_operand
-use Rattle.lg_op.specs.declared.op.ControlOp.TheVariants as control
 use Rattle.lg_op.specs.declared.op.PlainOp.TheVariants as plain
-use Rattle.lg_op.specs.declared.op.Addressing.TheVariants as addressing
 use Rattle.lg_op.specs.declared.operand.Operand.{Operand}
 use Rattle.lg_op.specs.declared.operand.Operand.TheVariants as operand
 use Rattle.lg_node.specs.Nodes.{with_node}
 use Rattle.lg_operand.specs.Operands.{differ, stays_apart}
 use Rattle.lg_base.specs.Refusals.{◌>>=◌}
-use Rattle.lg_tst.specs.Names.{FunctionNames}
 use Rattle.lg_tst.specs.Units.{State, all_operands, wanted, behind, operand_of, noted, operands, most_nodes, written_forms}
 use Rattle.lg_operand.specs.Registers.{register_word}
-
--- no operation has more than four operands
-pub few_forms : (op : Op) → length (written_forms op) ≤ 4
-few_forms (Binary op last) = lit≤ tt
-few_forms (Wide op last) = lit≤ tt
-few_forms (Branch op last) = lit≤ tt
-few_forms (BranchSum op last) = lit≤ tt
-few_forms (Control op last_operand.Register) = lit≤ tt
-few_forms (Control control.Jmp last_operand.Immediate) = lit≤ tt
-few_forms (Control control.Call last_operand.Immediate) = lit≤ tt
-few_forms (Control control.Finish last_operand.Immediate) = lit≤ tt
-few_forms (Control control.Pusharg last_operand.Immediate) = lit≤ tt
-few_forms (Control control.Ret last_operand.Immediate) = lit≤ tt
-few_forms (Unary op) = lit≤ tt
-few_forms (Plain plain.Movi) = lit≤ tt
-few_forms (Plain plain.Arg) = lit≤ tt
-few_forms (Plain plain.Allocai) = lit≤ tt
-few_forms (Plain plain.Align) = lit≤ tt
-few_forms (Plain plain.Prepare) = lit≤ tt
-few_forms (Plain plain.Ellipsis) = lit≤ tt
-few_forms (Plain plain.Prolog) = lit≤ tt
-few_forms (Plain plain.Epilog) = lit≤ tt
-few_forms (Plain plain.Ret) = lit≤ tt
-few_forms (Plain plain.VaStart) = lit≤ tt
-few_forms (Plain plain.VaArg) = lit≤ tt
-few_forms (Plain plain.VaEnd) = lit≤ tt
-few_forms (Load t addressing.Register) = lit≤ tt
-few_forms (Load t addressing.Immediate) = lit≤ tt
-few_forms (Load t addressing.RegisterRegister) = lit≤ tt
-few_forms (Load t addressing.RegisterImmediate) = lit≤ tt
-few_forms (Store t addressing.Register) = lit≤ tt
-few_forms (Store t addressing.Immediate) = lit≤ tt
-few_forms (Store t addressing.RegisterRegister) = lit≤ tt
-few_forms (Store t addressing.RegisterImmediate) = lit≤ tt
-few_forms (Retval t) = lit≤ tt
-few_forms (Getarg t) = lit≤ tt
 
 both_true : (a b : Bool) → (a && b) ≡ true → (a ≡ true) × (b ≡ true)
 both_true true b e = (refl, e)
@@ -78,10 +37,7 @@ differ_apart (operand.Reg a) (operand.Reg b) e same =
     let one : a ≡ b = cc in
     let twice = (bytes_eq-Decides (register_word a) (register_word b)).1 (ap register_word one) in
     false≢true (sym (ap not twice) ∙ e)
-differ_apart (operand.Reg a) (operand.Number n) e same = cc
-differ_apart (operand.Reg a) (operand.Label n) e same = cc
-differ_apart (operand.Reg a) (operand.Host n) e same = cc
-differ_apart (operand.Reg a) (operand.Slot n) e same = cc
+differ_apart (operand.Reg a) _ e same = cc
 differ_apart (operand.Number n) x e same = false≢true e
 differ_apart (operand.Label n) x e same = false≢true e
 differ_apart (operand.Host n) x e same = false≢true e
@@ -105,15 +61,6 @@ apart_more (Store t at) done x apart e = tt
 apart_more (Retval t) done x apart e = tt
 apart_more (Getarg t) done x apart e = tt
 
--- all operands are in form where those that have tokens are
-all_admitted : (op : Op) (done : List Operand) (names : FunctionNames) → admit (written_forms op) done ≡ true → admit (forms_of op) (all_operands op done names) ≡ true
-all_admitted (Plain plain.VaStart) done names e = admit_more (Write ∷ []) done ArgumentCount (operand.Number names.arguments) e refl
-all_admitted op done names e = e
-
-all_apart : (op : Op) (done : List Operand) (names : FunctionNames) → IsApart op done → IsApart op (all_operands op done names)
-all_apart (Plain plain.VaStart) done names e = tt
-all_apart op done names e = e
-
 -- this many operands of an instruction have been read, and the others decide what all of them give
 pub record IsRead (op : Op) (line i : ℕ) (done : List Operand) (s first : State) : Type 0 where
   pub whole : operands op line (drop i (written_forms op)) done s ≡ operands op line (written_forms op) [] first
@@ -121,23 +68,6 @@ pub record IsRead (op : Op) (line i : ℕ) (done : List Operand) (s first : Stat
   pub count : length done ≡ i
   pub form : admit (take i (written_forms op)) done ≡ true
   pub apart : IsApart op done
-
-pub none_read : (op : Op) (line : ℕ) (s : State) → length s.list.nodes < most_nodes → IsRead op line 0 [] s s
-none_read op line s room = record { whole = refl; room = room; count = refl; form = refl; apart = apart_none op }
-  where
-    apart_none : (op : Op) → IsApart op []
-    apart_none (Wide op last) = tt
-    apart_none (Binary op last) = tt
-    apart_none (Branch op last) = tt
-    apart_none (BranchSum op last) = tt
-    apart_none (Control op last) = tt
-    apart_none (Unary op) = tt
-    apart_none (Plain plain.VaArg) = tt
-    apart_none (Plain op) = tt
-    apart_none (Load t at) = tt
-    apart_none (Store t at) = tt
-    apart_none (Retval t) = tt
-    apart_none (Getarg t) = tt
 
 module _ (op : Op) (line i : ℕ) (done : List Operand) (s first : State) (read : IsRead op line i done s first) where
   module _ (d : Form) (within : i < length (written_forms op)) where
@@ -190,13 +120,6 @@ module _ (op : Op) (line i : ℕ) (done : List Operand) (s first : State) (read 
             (sym (ap (λ f. admits (get_or f i d) x) as_forms) ∙ admitted)
             (sym (ap (λ ds. stays_apart op ds x) as_done) ∙ apart)
             (kept ∙ ap (λ (u : State). length u.list.nodes) as_state))
-
-  -- all are read
-  pub in_form : length (written_forms op) ≤ i → (names : FunctionNames) → InForm record { op = op; operands = all_operands op done names; line = line }
-  in_form past names = record {
-    forms = all_admitted op done names (subst (λ fs. admit fs done ≡ true) (take_all i (written_forms op) past) read.form);
-    apart = all_apart op done names read.apart;
-  }
 
   pub all_read : length (written_forms op) ≤ i → operands op line (written_forms op) [] first ≡ Ok record s { list = with_node s.list (record { op = op; operands = all_operands op done s.names; line = line }) }
   unfolding operands

@@ -1,5 +1,5 @@
 -- A place in the data part stays in it where bytes come after.
-use Rattle.std.proofs.Common.{◌≡◌, ℕ, ◌≤◌, List, Option, Some, None, length, length-append, ap, ◌∙◌, arith}
+use Rattle.std.proofs.Common.{◌≡◌, ℕ, ◌≤◌, List, Option, Some, length, length-append, ap, ◌∙◌, arith}
 use Rattle.std.specs.List.{All}
 use Rattle.std.proofs.lemmas.List.Elements.{All-weaker}
 use Rattle.lg_node.specs.declared.place.Place.{Place}
@@ -8,9 +8,8 @@ use Rattle.lg_tst.specs.Answers.{LiesWithin}
 use Rattle.lg_tst.specs.DataParts.{DataBytes, image_of}
 
 lies_further : (m n : ℕ) → m ≤ n → (bound : Option Place) → LiesWithin m bound → LiesWithin n bound
-lies_further m n h None lies = tt
-lies_further m n h (Some (place.Node k)) lies = tt
 lies_further m n h (Some (place.Image k)) lies = omega (arith, h, lies)
+lies_further m n h _ lies = tt
 
 -- places within the bytes that were read are places within the image
 pub lie_in_image : (part : DataBytes) (image : List ℕ) (places : List (Option Place)) → image ≡ image_of part → All (LiesWithin (length part.bytes)) places → All (LiesWithin (length image)) places

@@ -69,17 +69,7 @@ operands_leave op line (f ∷ fs) done s =
 
 begun_left : (op : Op) (s : State) → length (begun op s).source.left ≤ length s.source.left
 begun_left (Plain plain.Prolog) s = omega arith
-begun_left (Plain plain.Movi) s = omega arith
-begun_left (Plain plain.Prepare) s = omega arith
-begun_left (Plain plain.Ellipsis) s = omega arith
-begun_left (Plain plain.Epilog) s = omega arith
-begun_left (Plain plain.Ret) s = omega arith
-begun_left (Plain plain.Arg) s = omega arith
-begun_left (Plain plain.Allocai) s = omega arith
-begun_left (Plain plain.Align) s = omega arith
-begun_left (Plain plain.VaStart) s = omega arith
-begun_left (Plain plain.VaArg) s = omega arith
-begun_left (Plain plain.VaEnd) s = omega arith
+begun_left (Plain _) s = omega arith
 begun_left (Binary op last) s = omega arith
 begun_left (Wide op last) s = omega arith
 begun_left (Branch op last) s = omega arith

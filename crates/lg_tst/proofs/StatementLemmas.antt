@@ -3,7 +3,7 @@ use Rattle.std.proofs.Common.{◌≡◌, ℕ, Bool, true, false, cond, List, Opt
 use Rattle.std.specs.Str.{bytes_eq}
 use Rattle.lg_base.specs.declared.refusal.RefusalKind.{RefusalKind}
 use Rattle.lg_lex.specs.declared.token.TokenKind.{TokenKind}
-use Rattle.lg_lex.specs.declared.token.TokenKind.TheVariants.{Word, Directive, LabelMark, Register, Number, Character, Expression, Name, Host, Str}
+use Rattle.lg_lex.specs.declared.token.TokenKind.TheVariants.{Word, Directive, LabelMark, Register}
 use Rattle.lg_op.specs.declared.op.Op.{Op}
 use Rattle.lg_tst.specs.Statements.{instruction_or, word_in, word_statement, directive_statement, statement_of}
 use Rattle.lg_operand.specs.Registers.{is_float_register}
@@ -35,24 +35,12 @@ word_other : (here : Section) (word : List ℕ) → IsOther (word_statement here
 word_other here word = other_cond (is_float_word word) _ _ tt (other_cond (bytes_eq word (codes "note")) _ _ tt (word_in_other here word))
 
 directive_other : (here : Section) (d : Option DirectiveName) → IsOther (directive_statement here d)
-directive_other section.Code None = tt
-directive_other section.Data None = tt
 directive_other here (Some directive.Data) = tt
 directive_other here (Some directive.Code) = tt
 directive_other here (Some directive.Float) = tt
 directive_other here (Some directive.Double) = tt
-directive_other section.Code (Some directive.Align) = tt
-directive_other section.Data (Some directive.Align) = tt
-directive_other section.Code (Some directive.Size) = tt
-directive_other section.Data (Some directive.Size) = tt
-directive_other section.Code (Some directive.Char) = tt
-directive_other section.Data (Some directive.Char) = tt
-directive_other section.Code (Some directive.Short) = tt
-directive_other section.Data (Some directive.Short) = tt
-directive_other section.Code (Some directive.Int) = tt
-directive_other section.Data (Some directive.Int) = tt
-directive_other section.Code (Some directive.Long) = tt
-directive_other section.Data (Some directive.Long) = tt
+directive_other section.Code _ = tt
+directive_other section.Data _ = tt
 
 no_label : {A : Type 0} (r : Result Statement RefusalKind) → IsOther r → r ≡ Ok statement.Label → A
 no_label r other e = absurd (subst IsOther e other)
@@ -62,9 +50,4 @@ label_mark here LabelMark text e = refl
 label_mark here Word text e = no_label _ (word_other here text) e
 label_mark here Directive text e = no_label _ (directive_other here (directive_of text)) e
 label_mark here Register text e = no_label _ (other_cond (is_float_register text) _ _ tt tt) e
-label_mark here Number text e = cc
-label_mark here Character text e = cc
-label_mark here Expression text e = cc
-label_mark here Name text e = cc
-label_mark here Host text e = cc
-label_mark here Str text e = cc
+label_mark here _ text e = cc

@@ -90,17 +90,7 @@ operands_lead op line (f ∷ fs) done s =
 
 begun_later : (op : Op) (s : State) → IsLater s.source (begun op s).source
 begun_later (Plain plain.Prolog) s = same s.source
-begun_later (Plain plain.Movi) s = same s.source
-begun_later (Plain plain.Prepare) s = same s.source
-begun_later (Plain plain.Ellipsis) s = same s.source
-begun_later (Plain plain.Epilog) s = same s.source
-begun_later (Plain plain.Ret) s = same s.source
-begun_later (Plain plain.Arg) s = same s.source
-begun_later (Plain plain.Allocai) s = same s.source
-begun_later (Plain plain.Align) s = same s.source
-begun_later (Plain plain.VaStart) s = same s.source
-begun_later (Plain plain.VaArg) s = same s.source
-begun_later (Plain plain.VaEnd) s = same s.source
+begun_later (Plain _) s = same s.source
 begun_later (Binary op last) s = same s.source
 begun_later (Wide op last) s = same s.source
 begun_later (Branch op last) s = same s.source

@@ -13,9 +13,6 @@ pub record IsLeft (s first : State) : Type 0 where
   pub room : length s.source.left < most
   pub whole : statements most s ≡ statements_of first
 
-pub all_left : (s : State) → IsLeft s s
-all_left s = record { most = suc (length s.source.left); room = omega arith; whole = refl }
-
 none_left : (left : List Token) (fault : Option Refusal) → next_of left fault ≡ Ok None → tail_of left ≡ left
 none_left [] fault e = refl
 none_left (t ∷ more) fault e = cc

@@ -1,13 +1,14 @@
 -- Code after code that only computes.
-use Rattle.std.proofs.Common.{◌≡◌, ℕ, ◌+◌, ◌-◌, ◌*◌, ◌≤◌, Bool, true, false, List, [], ◌∷◌, ◌++◌, Option, refl, ap, ◌∙◌, arith, length, length-append}
+use Rattle.std.proofs.Common.{◌≡◌, ℕ, ◌+◌, ◌-◌, ◌*◌, ◌≤◌, Bool, true, false, List, [], ◌∷◌, ◌++◌, Option, refl, ap, ◌∙◌, arith, length-append}
 use Rattle.std.specs.Prelude.{◌&&◌, is_some}
 use Rattle.std.proofs.lemmas.Bool.{and_parts}
 use Rattle.lg_base.specs.Runs.{Status}
 use Rattle.lg_base.specs.declared.flags.Flags.{Flags}
-use Rattle.lg_carry.specs.Blocks.{spellings, done, GoesThrough, IsAbove}
+use Rattle.lg_carry.specs.Blocks.{done, GoesThrough, IsAbove}
 use Rattle.lg_carry.specs.Processors.{Seen}
 use Rattle.lg_carry.specs.Rows.{Rows}
 use Rattle.lg_carry.specs.Spills.{Does, in_slots, in_first_slots}
+use Rattle.lg_carry.proofs.OfNodes.StretchLemmas.{spelled-size}
 use Rattle.lg_carry.proofs.StackLemmas.{within-where}
 use Rattle.lg_carry.specs.Nodes.Straight.{from_to}
 use Rattle.lg_carry.specs.Values.Computers.{Computer, IsComputer, all_compute, computed}
@@ -21,14 +22,6 @@ goes-append : {Q I : Type 0} (does : I → Q → Q) (status : Q → Status) (abo
     → GoesThrough does status above (xs ++ ys) q
 goes-append does status above [] ys q a b = b
 goes-append does status above (i ∷ xs) ys q a b = (a.0, a.1, goes-append does status above xs ys (does i q) a.2 b)
-
-spelled-append : {I : Type 0} (spelling : I → List ℕ) (xs ys : List I) → length (spellings spelling (xs ++ ys)) ≡ length (spellings spelling xs) + length (spellings spelling ys)
-spelled-append spelling [] ys = omega arith
-spelled-append spelling (x ∷ xs) ys =
-    let h = spelled-append spelling xs ys in
-    let a = length-append (spelling x) (spellings spelling (xs ++ ys)) in
-    let b = length-append (spelling x) (spellings spelling xs) in
-    omega (arith, h, a, b)
 
 -- the slots of no register are none
 pub no-slots : {A : Type 0} (fp a : ℕ) → in_first_slots fp 0 a ≡ true → A
@@ -58,7 +51,7 @@ told R s V W B M E F is fp n T registers bytes flags does q looks room =
 pub in-a-row : {Q I : Type 0} (R : Rows Q I) (s : Seen) (V W : ℕ → ℕ) (B M : ℕ → Option ℕ) (E F : Flags) (xs ys : List I) (fp n : ℕ) (T : ℕ → Bool) → n ≤ 5 → Does R (from_to s V B E) xs fp 5 (λ r. false)
     → Does R (from_to (record s { registers = V; bytes = B; flags = E }) W M F) ys fp n T → Does R (from_to s W M F) (xs ++ ys) fp n T
 in-a-row R s V W B M E F xs ys fp n T most first second q looks room =
-    let long = spelled-append R.spelling xs ys in
+    let long = spelled-size R.spelling xs ys in
     let both = length-append xs ys in
     let a = first q looks record { low = room.low; high = λ z. let h = room.high (omega (arith, z, both)) in omega (arith, h, long) } in
     let mid = done R.does xs q in

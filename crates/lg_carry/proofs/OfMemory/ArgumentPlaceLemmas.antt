@@ -65,13 +65,13 @@ module _ {Q I : Type 0} (R : Rows Q I) (scratch : ℕ → Bool) (fits : I → Ty
   h = none-harmless R scratch fits isa c i n S
 
   behind : is_inside c s.at ≡ true
-  behind = inside R scratch fits isa c i n S [] is inner falls x y h frames s q at st.runs st.state
+  behind = inside R scratch fits isa c i n S [] is inner falls x y.code h frames s q at st.runs st.state
 
   stack : AreStacked (lowest s.frame) (s.frame ∷ s.callers)
-  stack = tower R scratch fits isa c i n S [] is inner falls x y h frames s q at st.runs st.state
+  stack = tower R scratch fits isa c i n S [] is inner falls x y.code h frames s q at st.runs st.state
 
   pub reads-held : HoldsRead target n frame s (R.processor.seen q)
-  reads-held = read-before R scratch fits isa c i n S [] is inner falls x y h frames s q at st.runs st.state frame is-frame
+  reads-held = read-before R scratch fits isa c i n S [] is inner falls x y.code h frames s q at st.runs st.state frame is-frame
 
   rests : IsSettled target c.place (R.processor.seen q).bytes w s.frame s.callers (frames (at_call s.frame)) (homes_at c s.at)
   rests = settled target (is_inside c s.at) c.place (R.processor.seen q).bytes w s.frame s.callers (frames (at_call s.frame)) (homes_at c s.at) behind st.state.frame

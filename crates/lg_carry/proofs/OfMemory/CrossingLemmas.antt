@@ -1,11 +1,11 @@
 -- Code that goes straight on is crossed; and so are saves, code that is crossed, and restores.
-use Rattle.std.proofs.Common.{◌≡◌, ◌≢◌, ℕ, zero, suc, ◌+◌, ◌-◌, ◌^◌, ◌<◌, ◌≤◌, ◌⊎◌, inl, inr, Bool, true, false, List, [], ◌∷◌, ◌++◌, refl, sym, ap, ◌∙◌, subst, arith, ⊎_elim, length, length-append, append-nil, append_assoc, drop}
+use Rattle.std.proofs.Common.{◌≡◌, ◌≢◌, ℕ, ◌+◌, ◌-◌, ◌^◌, ◌<◌, ◌≤◌, inr, Bool, true, false, Option, List, [], ◌∷◌, ◌++◌, refl, sym, ap, ◌∙◌, subst, arith, ⊎_elim, length, length-append, append-nil, append_assoc, drop}
 use Rattle.std.specs.Prelude.{◌==◌, ◌&&◌, not, is_some, if◌then◌else◌}
-use Rattle.std.specs.List.{All}
-use Rattle.std.proofs.lemmas.Bool.{cases_eq, cases_lt}
+use Rattle.std.proofs.lemmas.Bool.{cases_eq}
 use Rattle.lg_base.specs.Conventions.{frame_register, stack_register}
 use Rattle.lg_base.specs.Layout.{spill_word, code_base, most_code}
 use Rattle.lg_base.specs.Spaces.{stored}
+use Rattle.lg_base.specs.declared.flags.Flags.{Flags}
 use Rattle.lg_base.proofs.SpaceLemmas.{stored-out, loaded-stored}
 use Rattle.lg_temp.specs.declared.choice.Choice.{Choice}
 use Rattle.lg_temp.specs.declared.choice.Choice.TheVariants.{Free, Own, Spill}
@@ -13,12 +13,13 @@ use Rattle.lg_carry.specs.Registers.{HasWord}
 use Rattle.lg_carry.specs.Rows.{Rows, AreRows}
 use Rattle.lg_carry.specs.Processors.{Processor}
 use Rattle.lg_carry.specs.Blocks.{done, spellings, IsBlock, GoesThrough, StaysOutside, IsAbove}
-use Rattle.lg_carry.specs.Spills.{IsFramePointer, in_slots, in_first_slots, IsSaved, with_register, IsRestored, AreSpills, Looks, Leaves, Work, Does, wrapped, AreInOrder, spilled, lost, KeepSpilled, KeepsFrame}
+use Rattle.lg_carry.specs.Spills.{IsFramePointer, in_first_slots, IsSaved, with_register, IsRestored, AreSpills, Looks, Leaves, Work, Does, wrapped, AreInOrder, spilled, lost, KeepSpilled, KeepsFrame}
 use Rattle.lg_carry.proofs.BlockLemmas.{behind as behind-front}
-use Rattle.lg_carry.proofs.SpillLemmas.{stored-there, lost-none}
+use Rattle.lg_carry.proofs.SpillLemmas.{stored-there, lost-none, other, slot-off}
 use Rattle.lg_carry.proofs.WordLemmas.{word-kept}
 use Rattle.lg_carry.specs.Nodes.Stretches.{StandsAt, behind, PassesIn}
-use Rattle.lg_carry.proofs.OfNodes.StretchLemmas.{part-passes, passages-join, spelled-append}
+use Rattle.lg_carry.proofs.OfNodes.StretchLemmas.{part-passes, passages-join, spelled-append, spelled-size, all-front, all-back}
+use Rattle.lg_carry.proofs.OfNodes.StretchLemmas.{places-after as stretch-after}
 use Rattle.lg_carry.specs.Memory.Crossings.{Crosses, CrossesCode, LeadsTo, Skips}
 use Rattle.lg_carry.proofs.OfMemory.AfterLemmas.{more-slots}
 
@@ -33,13 +34,10 @@ passes-within P low high low' high' steps q u le ge h = record {
   keeps = h.keeps;
 }
 
-size-of : {I : Type 0} (spelling : I → List ℕ) (xs ys : List I) → length (spellings spelling (xs ++ ys)) ≡ length (spellings spelling xs) + length (spellings spelling ys)
-size-of spelling xs ys = ap length (spelled-append spelling xs ys) ∙ length-append (spellings spelling xs) (spellings spelling ys)
-
 -- ---- code that goes straight on
-pub straight-crosses : {Q I : Type 0} (R : Rows Q I) (fits : I → Type 0) → AreRows R fits → (w : Work) (code : List I) (fp n : ℕ) (T : ℕ → Bool) → IsBlock R.is_straight code → Does R w code fp n T → CrossesCode R fits w code fp n T
-straight-crosses R fits ok w code fp n T block does q from looks k high at =
-    let l = does q looks record { low = omega (arith, at, k.low); high = omega (arith, at, high) } in
+abbrev pub leaves-cross : {Q I : Type 0} (R : Rows Q I) (fits : I → Type 0) → AreRows R fits → (code : List I) (fp n : ℕ) (W : ℕ → ℕ) (M : ℕ → Option ℕ) (mark : ℕ) (flags : Flags) (T : ℕ → Bool) → IsBlock R.is_straight code
+    → (q : Q) (from : ℕ) → StandsAt R false fits from code → (R.processor.seen q).pc ≡ from → Leaves R code fp n W M mark flags T q → Crosses R from (behind R from code) (length code) fp n W M mark flags T q
+leaves-cross R fits ok code fp n W M mark flags T block q from k at l =
     let pass = part-passes R fits ok false from [] code [] q (subst (StandsAt R false fits from) (sym (append-nil code)) k) (at ∙ omega arith) block l.through in
     record {
       end = done R.does code q;
@@ -54,6 +52,10 @@ straight-crosses R fits ok w code fp n T block does q from looks k high at =
       has_mark = l.has_mark;
       has_flags = l.has_flags;
     }
+
+pub straight-crosses : {Q I : Type 0} (R : Rows Q I) (fits : I → Type 0) → AreRows R fits → (w : Work) (code : List I) (fp n : ℕ) (T : ℕ → Bool) → IsBlock R.is_straight code → Does R w code fp n T → CrossesCode R fits w code fp n T
+straight-crosses R fits ok w code fp n T block does q from looks k high at =
+    leaves-cross R fits ok code fp n w.end_registers w.end_bytes w.end_mark w.end_flags T block q from k at (does q looks record { low = omega (arith, at, k.low); high = omega (arith, at, high) })
 
 -- what is between saves and restores is a block where all of it is one
 block-tail : {I : Type 0} (straight : I → Bool) (x : I) (xs : List I) → IsBlock straight (x ∷ xs) → IsBlock straight xs
@@ -73,27 +75,8 @@ block-within R (Spill r k ∷ choices) body h =
     block-within R choices body (block-front R.is_straight (wrapped R choices body) (R.restore r k ∷ []) (block-tail R.is_straight (R.save r k) (wrapped R choices body ++ R.restore r k ∷ []) h))
 
 -- after a part of the code another instruction may be
-places-from : {Q I : Type 0} (R : Rows Q I) (fits : I → Type 0) → AreRows R fits → (xs : List I) (pc : ℕ) → All fits xs → R.is_place pc ≡ true → R.is_place (pc + length (spellings R.spelling xs)) ≡ true
-places-from R fits ok [] pc all at = subst (λ n. R.is_place n ≡ true) (omega arith) at
-places-from R fits ok (x ∷ xs) pc all at =
-    let size = length-append (R.spelling x) (spellings R.spelling xs) in
-    let e : pc + length (R.spelling x) + length (spellings R.spelling xs) ≡ pc + length (spellings R.spelling (x ∷ xs)) = omega (arith, size) in
-    subst (λ n. R.is_place n ≡ true) e (places-from R fits ok xs (pc + length (R.spelling x)) (λ k d lt. all (suc k) d (omega (arith, lt))) (ok.places pc x (all 0 x (omega arith)) at))
-
-all-front : {I : Type 0} (fits : I → Type 0) (xs ys : List I) → All fits (xs ++ ys) → All fits xs
-all-front fits [] ys h = λ k d lt. absurd (omega (arith, lt))
-all-front fits (x ∷ xs) ys h = by (all-front fits xs ys (λ j e l. h (suc j) e (omega (arith, l))))
-  where
-    by : All fits xs → All fits (x ∷ xs)
-    by rest zero d lt = h 0 d (omega arith)
-    by rest (suc k) d lt = rest k d (omega (arith, lt))
-
-all-back : {I : Type 0} (fits : I → Type 0) (xs ys : List I) → All fits (xs ++ ys) → All fits ys
-all-back fits [] ys h = h
-all-back fits (x ∷ xs) ys h = all-back fits xs ys (λ k d lt. h (suc k) d (omega (arith, lt)))
-
 places-after : {Q I : Type 0} (R : Rows Q I) (fits : I → Type 0) → AreRows R fits → (from : ℕ) (xs ys : List I) → StandsAt R false fits from (xs ++ ys) → R.is_place (behind R from xs) ≡ true
-places-after R fits ok from xs ys k = places-from R fits ok xs from (all-front fits xs ys k.fit) k.place
+places-after R fits ok from xs ys k = stretch-after R fits ok xs from (all-front fits xs ys k.fit) k.place
 
 part-stands : {Q I : Type 0} (R : Rows Q I) (fits : I → Type 0) → AreRows R fits → (from : ℕ) (front part back : List I) → StandsAt R false fits from (front ++ (part ++ back)) → StandsAt R false fits (behind R from front) part
 part-stands R fits ok from front part back k =
@@ -141,9 +124,9 @@ module _ {Q I : Type 0} (R : Rows Q I) (fits : I → Type 0) (ok : AreRows R fit
 
     sizes : size code ≡ size front + (length (R.spelling b) + (size slow + (length (R.spelling j) + size fast)))
     sizes =
-        let m = size-of R.spelling front (b ∷ (slow ++ (j ∷ fast))) in
+        let m = spelled-size R.spelling front (b ∷ (slow ++ (j ∷ fast))) in
         let n = length-append (R.spelling b) (spellings R.spelling (slow ++ (j ∷ fast))) in
-        let o = size-of R.spelling slow (j ∷ fast) in
+        let o = spelled-size R.spelling slow (j ∷ fast) in
         let p = length-append (R.spelling j) (spellings R.spelling fast) in
         omega (arith, m, n, o, p)
 
@@ -169,7 +152,7 @@ module _ {Q I : Type 0} (R : Rows Q I) (fits : I → Type 0) (ok : AreRows R fit
     over-few = by aligned
       where
         by : (c : Bool) → (R.processor.seen q1).pc + length (R.spelling b) + (if c then size (slow ++ (j ∷ [])) else 0) ≤ code_base + most_code
-        by true = let m = size-of R.spelling slow (j ∷ []) in let o = length-append (R.spelling j) [] in omega (arith, here1, high, sizes, m, o)
+        by true = let m = spelled-size R.spelling slow (j ∷ []) in let o = length-append (R.spelling j) [] in omega (arith, here1, high, sizes, m, o)
         by false = omega (arith, here1, high, sizes)
 
     l : LeadsTo R b q1 ((R.processor.seen q1).pc + length (R.spelling b) + over)
@@ -204,11 +187,11 @@ module _ {Q I : Type 0} (R : Rows Q I) (fits : I → Type 0) (ok : AreRows R fit
     goes-fast : aligned ≡ true → Result
     goes-fast even =
         let before = (front ++ (b ∷ [])) ++ (slow ++ (j ∷ [])) in
-        let m = size-of R.spelling slow (j ∷ []) in
+        let m = spelled-size R.spelling slow (j ∷ []) in
         let o = length-append (R.spelling j) [] in
         let over-is : over ≡ size slow + length (R.spelling j) = ap (λ c. if c then size (slow ++ (j ∷ [])) else 0) even ∙ omega (arith, m, o) in
-        let s = size-of R.spelling (front ++ (b ∷ [])) (slow ++ (j ∷ [])) in
-        let t = size-of R.spelling front (b ∷ []) in
+        let s = spelled-size R.spelling (front ++ (b ∷ [])) (slow ++ (j ∷ [])) in
+        let t = spelled-size R.spelling front (b ∷ []) in
         let v = length-append (R.spelling b) [] in
         let here2 : (R.processor.seen q2).pc ≡ behind R from before = l.here ∙ omega (arith, here1, over-is, m, o, s, t, v) in
         let split : code ≡ before ++ (fast ++ []) = sym (ap (λ z. before ++ z) (append-nil fast) ∙ append_assoc (front ++ (b ∷ [])) (slow ++ (j ∷ [])) fast ∙ append_assoc front (b ∷ []) ((slow ++ (j ∷ [])) ++ fast) ∙ ap (λ z. front ++ (b ∷ z)) (append_assoc slow (j ∷ []) fast)) in
@@ -232,7 +215,7 @@ module _ {Q I : Type 0} (R : Rows Q I) (fits : I → Type 0) (ok : AreRows R fit
     goes-slow : aligned ≡ false → Result
     goes-slow odd =
         let before = front ++ (b ∷ []) in
-        let t = size-of R.spelling front (b ∷ []) in
+        let t = spelled-size R.spelling front (b ∷ []) in
         let v = length-append (R.spelling b) [] in
         let over-is : over ≡ 0 = ap (λ c. if c then size (slow ++ (j ∷ [])) else 0) odd in
         let here2 : (R.processor.seen q2).pc ≡ behind R from before = l.here ∙ omega (arith, here1, over-is, t, v) in
@@ -240,9 +223,9 @@ module _ {Q I : Type 0} (R : Rows Q I) (fits : I → Type 0) (ok : AreRows R fit
         let f = slowly odd q2 looks2 record { low = omega (arith, here2, k.low); high = omega (arith, here2, high, sizes, t, v) } in
         let q3 = done R.does slow q2 in
         let pass3 = passages-join R.processor false from (behind R from code) (length front + 1) (length slow) q q2 q3 pass2 (piece-passes from code before slow (j ∷ fast) q2 split k here2 slow-block f.through) in
-        let here3 : (R.processor.seen q3).pc ≡ behind R from (before ++ slow) = (let s = size-of R.spelling before slow in f.behind ∙ omega (arith, here2, s)) in
+        let here3 : (R.processor.seen q3).pc ≡ behind R from (before ++ slow) = (let s = spelled-size R.spelling before slow in f.behind ∙ omega (arith, here2, s)) in
         let last : code ≡ (before ++ slow) ++ ((j ∷ []) ++ fast) = split ∙ sym (append_assoc before slow (j ∷ fast)) in
-        let s = size-of R.spelling before slow in
+        let s = spelled-size R.spelling before slow in
         let u = jumps (R.processor.seen q3).registers q3 f.runs (λ r. refl) (omega (arith, here3, k.low)) (subst (λ z. R.is_place z ≡ true) (sym here3) (places-after R fits ok from (before ++ slow) (j ∷ fast) (subst (StandsAt R false fits from) last k))) (omega (arith, here3, high, sizes, s, t, v)) in
         let q4 = R.does j q3 in
         record {
@@ -270,28 +253,11 @@ module _ {Q I : Type 0} (R : Rows Q I) (fits : I → Type 0) (ok : AreRows R fit
 slot-first : (fp k a : ℕ) → k < 5 → 128 ≤ fp → spill_word fp k ≤ a → a < spill_word fp k + 8 → in_first_slots fp (k + 1) a ≡ true
 slot-first fp k a few low le lt = grind arith
 
-slot-inside : (fp k a : ℕ) → k < 5 → 128 ≤ fp → spill_word fp k ≤ a → a < spill_word fp k + 8 → in_slots fp a ≡ true
-slot-inside fp k a few low le lt = grind arith
-
-slot-off : (fp k a : ℕ) → k < 5 → 128 ≤ fp → in_slots fp a ≡ false → (a < spill_word fp k) ⊎ (spill_word fp k + 8 ≤ a)
-slot-off fp k a few low off = ⊎_elim (λ lt. inl lt) (λ ge. ⊎_elim (λ lt. absurd (clash (slot-inside fp k a few low ge lt))) (λ le. inr le) (cases_lt a (spill_word fp k + 8))) (cases_lt a (spill_word fp k))
-  where
-    clash : in_slots fp a ≡ true → ⊥
-    clash e = let z : true ≡ false = sym e ∙ off in cc
-
 slot-below : (fp k a : ℕ) → k < 5 → 128 ≤ fp → in_first_slots fp k a ≡ true → spill_word fp k + 8 ≤ a
 slot-below fp k a few low e = grind arith
 
 slot-more : (fp k a : ℕ) → k < 5 → 128 ≤ fp → in_first_slots fp k a ≡ true → in_first_slots fp (k + 1) a ≡ true
 slot-more fp k a few low e = grind arith
-
-other : (T : ℕ → Bool) (r x : ℕ) → (T x && not (x == r)) ≡ false → x ≢ r → T x ≡ false
-other T r x e ne = by (T x) (x == r) refl refl e
-  where
-    by : (b c : Bool) → T x ≡ b → (x == r) ≡ c → (b && not c) ≡ false → T x ≡ false
-    by true true h k e = absurd (ne (grind (arith, k)))
-    by true false h k e = cc
-    by false c h k e = h
 
 module _ {Q I : Type 0} (R : Rows Q I) (fits : I → Type 0) (rows : AreRows R fits) (ok : AreSpills R) where
   around : (w : Work) (code : List I) (r k fp : ℕ) (T : ℕ → Bool) → IsFramePointer fp → ((x : ℕ) → w.registers x < 2 ^ 64) → k < 5 → R.can_save r ≡ true → w.end_registers r ≡ w.registers r
@@ -315,13 +281,13 @@ module _ {Q I : Type 0} (R : Rows Q I) (fits : I → Type 0) (rows : AreRows R f
   }
     where
       first : length (spellings R.spelling (R.save r k ∷ (code ++ R.restore r k ∷ []))) ≡ length (spellings R.spelling (R.save r k ∷ [])) + length (spellings R.spelling (code ++ R.restore r k ∷ []))
-      first = size-of R.spelling (R.save r k ∷ []) (code ++ R.restore r k ∷ [])
+      first = spelled-size R.spelling (R.save r k ∷ []) (code ++ R.restore r k ∷ [])
 
       after : length (spellings R.spelling (code ++ R.restore r k ∷ [])) ≡ length (spellings R.spelling code) + length (spellings R.spelling (R.restore r k ∷ []))
-      after = size-of R.spelling code (R.restore r k ∷ [])
+      after = spelled-size R.spelling code (R.restore r k ∷ [])
 
       fronts : length (spellings R.spelling (R.save r k ∷ code)) ≡ length (spellings R.spelling (R.save r k ∷ [])) + length (spellings R.spelling code)
-      fronts = size-of R.spelling (R.save r k ∷ []) code
+      fronts = spelled-size R.spelling (R.save r k ∷ []) code
 
       low : 128 ≤ fp
       low = omega (arith, f.low)

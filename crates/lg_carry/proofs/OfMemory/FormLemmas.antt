@@ -25,33 +25,23 @@ pub record StartsWritten (fs : List Form) (xs : List Operand) : Type 0 where
   pub admitted : admit fs rest ≡ true
 
 pub starts-written : (fs : List Form) (xs : List Operand) → admit (form.Write ∷ fs) xs ≡ true → StartsWritten fs xs
-starts-written fs [] e = cc
-starts-written fs (operand.Reg Fp ∷ xs) e = cc
 starts-written fs (operand.Reg R0 ∷ xs) e = record { register = R0; rest = xs; is = refl; named = λ z. cc; admitted = e }
 starts-written fs (operand.Reg R1 ∷ xs) e = record { register = R1; rest = xs; is = refl; named = λ z. cc; admitted = e }
 starts-written fs (operand.Reg R2 ∷ xs) e = record { register = R2; rest = xs; is = refl; named = λ z. cc; admitted = e }
 starts-written fs (operand.Reg V0 ∷ xs) e = record { register = V0; rest = xs; is = refl; named = λ z. cc; admitted = e }
 starts-written fs (operand.Reg V1 ∷ xs) e = record { register = V1; rest = xs; is = refl; named = λ z. cc; admitted = e }
 starts-written fs (operand.Reg V2 ∷ xs) e = record { register = V2; rest = xs; is = refl; named = λ z. cc; admitted = e }
-starts-written fs (operand.Number v ∷ xs) e = cc
-starts-written fs (operand.Label l ∷ xs) e = cc
-starts-written fs (operand.Host name ∷ xs) e = cc
-starts-written fs (operand.Slot k ∷ xs) e = cc
+starts-written fs _ e = cc
 
 -- nor is one that is read and written
 pub starts-updated : (fs : List Form) (xs : List Operand) → admit (form.Update ∷ fs) xs ≡ true → StartsWritten fs xs
-starts-updated fs [] e = cc
-starts-updated fs (operand.Reg Fp ∷ xs) e = cc
 starts-updated fs (operand.Reg R0 ∷ xs) e = record { register = R0; rest = xs; is = refl; named = λ z. cc; admitted = e }
 starts-updated fs (operand.Reg R1 ∷ xs) e = record { register = R1; rest = xs; is = refl; named = λ z. cc; admitted = e }
 starts-updated fs (operand.Reg R2 ∷ xs) e = record { register = R2; rest = xs; is = refl; named = λ z. cc; admitted = e }
 starts-updated fs (operand.Reg V0 ∷ xs) e = record { register = V0; rest = xs; is = refl; named = λ z. cc; admitted = e }
 starts-updated fs (operand.Reg V1 ∷ xs) e = record { register = V1; rest = xs; is = refl; named = λ z. cc; admitted = e }
 starts-updated fs (operand.Reg V2 ∷ xs) e = record { register = V2; rest = xs; is = refl; named = λ z. cc; admitted = e }
-starts-updated fs (operand.Number v ∷ xs) e = cc
-starts-updated fs (operand.Label l ∷ xs) e = cc
-starts-updated fs (operand.Host name ∷ xs) e = cc
-starts-updated fs (operand.Slot k ∷ xs) e = cc
+starts-updated fs _ e = cc
 
 pub record StartsRead (fs : List Form) (xs : List Operand) : Type 0 where
   pub register : Reg
@@ -60,12 +50,8 @@ pub record StartsRead (fs : List Form) (xs : List Operand) : Type 0 where
   pub admitted : admit fs rest ≡ true
 
 pub starts-read : (fs : List Form) (xs : List Operand) → admit (form.Read ∷ fs) xs ≡ true → StartsRead fs xs
-starts-read fs [] e = cc
 starts-read fs (operand.Reg r ∷ xs) e = record { register = r; rest = xs; is = refl; admitted = e }
-starts-read fs (operand.Number v ∷ xs) e = cc
-starts-read fs (operand.Label l ∷ xs) e = cc
-starts-read fs (operand.Host name ∷ xs) e = cc
-starts-read fs (operand.Slot k ∷ xs) e = cc
+starts-read fs _ e = cc
 
 -- an immediate that is no label gives a number, in each state
 pub record StartsNumber (fs : List Form) (xs : List Operand) : Type 0 where
@@ -84,12 +70,10 @@ label-free x xs e = by (is_label x) e
     by false e = refl
 
 pub starts-number : (fs : List Form) (xs : List Operand) → list_any is_label xs ≡ false → admit (form.Immediate ∷ fs) xs ≡ true → StartsNumber fs xs
-starts-number fs [] none e = cc
 starts-number fs (operand.Number v ∷ xs) none e = record { constant = operand.Number v; rest = xs; is = refl; gives = λ a s. refl; plain = λ r z. cc; admitted = e }
 starts-number fs (operand.Host name ∷ xs) none e = record { constant = operand.Host name; rest = xs; is = refl; gives = λ a s. refl; plain = λ r z. cc; admitted = e }
 starts-number fs (operand.Label l ∷ xs) none e = let z = label-free (operand.Label l) xs none in cc
-starts-number fs (operand.Reg r ∷ xs) none e = cc
-starts-number fs (operand.Slot k ∷ xs) none e = cc
+starts-number fs _ none e = cc
 
 pub record StartsArgument (fs : List Form) (xs : List Operand) : Type 0 where
   pub number : ℕ
@@ -98,9 +82,5 @@ pub record StartsArgument (fs : List Form) (xs : List Operand) : Type 0 where
   pub admitted : admit fs rest ≡ true
 
 pub starts-argument : (fs : List Form) (xs : List Operand) → admit (form.Argument ∷ fs) xs ≡ true → StartsArgument fs xs
-starts-argument fs [] e = cc
 starts-argument fs (operand.Slot k ∷ xs) e = record { number = k; rest = xs; is = refl; admitted = e }
-starts-argument fs (operand.Reg r ∷ xs) e = cc
-starts-argument fs (operand.Number v ∷ xs) e = cc
-starts-argument fs (operand.Label l ∷ xs) e = cc
-starts-argument fs (operand.Host name ∷ xs) e = cc
+starts-argument fs _ e = cc

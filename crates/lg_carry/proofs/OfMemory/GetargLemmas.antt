@@ -46,12 +46,7 @@ use Rattle.lg_carry.proofs.OfMemory.WriteLemmas.{writes-word}
 
 width-whole : (a : ℕ) (t : ValueType) → a % 8 ≡ 0 → (a % width t == 0) ≡ true
 width-whole a value_type.Char e = grind (arith, e)
-width-whole a value_type.UnsignedChar e = grind (arith, e)
-width-whole a value_type.Short e = grind (arith, e)
-width-whole a value_type.UnsignedShort e = grind (arith, e)
-width-whole a value_type.Int e = grind (arith, e)
-width-whole a value_type.UnsignedInt e = grind (arith, e)
-width-whole a value_type.Long e = grind (arith, e)
+width-whole a _ e = grind (arith, e)
 
 -- the home of an argument that is named is read
 named-read : (k : ℕ) → k < 16 → k < homes_to k

@@ -49,12 +49,7 @@ byte-there (Some b) e = (b, refl)
 
 pub some-wide : (t : ValueType) → 0 < width t
 some-wide value_type.Char = omega arith
-some-wide value_type.UnsignedChar = omega arith
-some-wide value_type.Short = omega arith
-some-wide value_type.UnsignedShort = omega arith
-some-wide value_type.Int = omega arith
-some-wide value_type.UnsignedInt = omega arith
-some-wide value_type.Long = omega arith
+some-wide _ = omega arith
 
 module _ {Q I : Type 0} (R : Rows Q I) (fits : I → Type 0) (scratch : ℕ → Bool) (c : Code) (i : ℕ) (n : Node) (t : ValueType) (d : Reg) (named : d ≢ Fp) (at : Address) (is-address : IsAddress at) (frame : ℕ)
     (choices : List Choice) (body : List I) (lead : LoadCrosses R fits scratch choices frame t d at body) (some : 0 < length (spellings R.spelling body)) (o : State → Option ℕ)

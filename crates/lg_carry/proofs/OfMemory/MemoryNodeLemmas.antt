@@ -50,7 +50,8 @@ use Rattle.lg_carry.specs.Memory.Operands.{named, number, is_label, names_label,
 use Rattle.lg_carry.specs.Memory.Stores.{StoreCode, StoreDoes, StoreCrosses, StoresDo, HasStoreCode, StoresCarry, StoresWithTemporariesCarry}
 use Rattle.lg_carry.proofs.OfMemory.FormLemmas.{nothing-left, starts-written, starts-read, starts-number}
 use Rattle.lg_carry.proofs.OfMemory.LoadLemmas.{load-computes}
-use Rattle.lg_carry.proofs.OfMemory.ReadLemmas.{sum, same-some, parts, or-true, or-false, numbered-same, numbered-none, number-small, with_op, stepped}
+use Rattle.lg_carry.proofs.SpillChoiceLemmas.{or-true}
+use Rattle.lg_carry.proofs.OfMemory.ReadLemmas.{sum, same-some, parts, or-false, numbered-same, numbered-none, number-small, with_op, stepped}
 use Rattle.lg_carry.proofs.OfMemory.StoreLemmas.{store-carried}
 
 turned : (a b : ℕ) → add_words a b ≡ add_words b a

@@ -36,22 +36,16 @@ module _ (m : ℕ → ℕ) (a : ℕ) (small : (j : ℕ) → m j < 256) where
   part-8 = let lt = number_at-lt m a 8 small in omega (arith, lt)
 
   low-part : (t : ValueType) → number_at m a 8 % 256 ^ width t ≡ number_at m a (width t)
-  low-part value_type.Char = part-1
-  low-part value_type.UnsignedChar = part-1
   low-part value_type.Short = part-2
   low-part value_type.UnsignedShort = part-2
   low-part value_type.Int = part-4
   low-part value_type.UnsignedInt = part-4
   low-part value_type.Long = part-8
+  low-part _ = part-1
 
 pub width-few : (t : ValueType) → width t ≤ 8
 width-few value_type.Char = omega arith
-width-few value_type.UnsignedChar = omega arith
-width-few value_type.Short = omega arith
-width-few value_type.UnsignedShort = omega arith
-width-few value_type.Int = omega arith
-width-few value_type.UnsignedInt = omega arith
-width-few value_type.Long = omega arith
+width-few _ = omega arith
 
 -- where a word is, the number of its first bytes is its low part
 pub part-loaded : (m : ℕ → Option ℕ) (a v : ℕ) (t : ValueType) → ((a b : ℕ) → m a ≡ Some b → b < 256) → loaded m a 8 ≡ Some v → loaded m a (width t) ≡ Some (v % 256 ^ width t)
@@ -72,9 +66,4 @@ typed-part value_type.Long v lt = omega (arith, lt)
 
 pub part-less : (v : ℕ) (t : ValueType) → v % 256 ^ width t < 256 ^ width t
 part-less v value_type.Char = omega arith
-part-less v value_type.UnsignedChar = omega arith
-part-less v value_type.Short = omega arith
-part-less v value_type.UnsignedShort = omega arith
-part-less v value_type.Int = omega arith
-part-less v value_type.UnsignedInt = omega arith
-part-less v value_type.Long = omega arith
+part-less v _ = omega arith

@@ -31,7 +31,7 @@ use Rattle.lg_meaning.specs.Texts.{step}
 use Rattle.lg_temp.specs.Abis.{register_of}
 use Rattle.lg_temp.specs.declared.choice.Choice.{Choice}
 use Rattle.lg_temp.specs.declared.choice.Choice.TheVariants.{Free}
-use Rattle.lg_carry.specs.Blocks.{done, spellings}
+use Rattle.lg_carry.specs.Blocks.{done}
 use Rattle.lg_carry.specs.Carries.{Leads}
 use Rattle.lg_carry.specs.FinalNodes.{Code, is_inside}
 use Rattle.lg_carry.specs.Homes.{homes_at}
@@ -54,7 +54,7 @@ use Rattle.lg_carry.proofs.WordLemmas.{word-kept}
 use Rattle.lg_carry.specs.Nodes.Isas.{IsIsa}
 use Rattle.lg_carry.specs.Nodes.Straight.{is_taken, spoils, from_to, HoldsRead}
 use Rattle.lg_carry.proofs.OfNodes.RegisterLemmas.{same-self}
-use Rattle.lg_carry.proofs.OfNodes.StraightLemmas.{AreHarmless, none-harmless, inside, tower, is-fp, room, read-before, still, stays, leads, kept-portable, kept-argument, bytes-off}
+use Rattle.lg_carry.proofs.OfNodes.StraightLemmas.{AreHarmless, none-harmless, Crossed, crosses, inside, tower, is-fp, room, read-before, still, stays, leads, kept-portable, kept-argument, bytes-off}
 use Rattle.lg_carry.specs.Memory.Operands.{HasWords, operand_word}
 use Rattle.lg_carry.specs.Memory.Pushes.{PushCode, is_in_register, outgoing_word, IsPassed, PushesDo, HasPushCode, PushesCarry}
 use Rattle.lg_carry.specs.Memory.Stores.{IsWritable}
@@ -136,9 +136,6 @@ module _ {Q I : Type 0} (R : Rows Q I) (scratch : ℕ → Bool) (fits : I → Ty
 
     stepped-so : (s : State) → s.at ≡ i → step c.nodes c.shape c.addresses s ≡ need (value c.addresses s x) (λ v. quiet (on (record s { pushed = s.pushed ++ v ∷ [] })))
     stepped-so s at = stepped c i n s t at
-
-    long : 0 < length (spellings R.spelling is)
-    long = some frame (slice_index c.addresses) (c.place i) j x few g.slots g.words
 
     abbrev to : State → ℕ → State
     to s v = on (record s { pushed = s.pushed ++ v ∷ [] })
@@ -234,10 +231,10 @@ module _ {Q I : Type 0} (R : Rows Q I) (scratch : ℕ → Bool) (fits : I → Ty
         fp = frame_pointer s.frame.sp
 
         reads : HoldsRead target n frame s (R.processor.seen q)
-        reads = read-before R scratch fits isa c i n S taken is refl refl t k h frames s q at st.runs st.state frame is-frame
+        reads = read-before R scratch fits isa c i n S taken is refl refl t k.code h frames s q at st.runs st.state frame is-frame
 
         stack : AreStacked (lowest s.frame) (s.frame ∷ s.callers)
-        stack = tower R scratch fits isa c i n S taken is refl refl t k h frames s q at st.runs st.state
+        stack = tower R scratch fits isa c i n S taken is refl refl t k.code h frames s q at st.runs st.state
 
         -- what the code leaves
         does-so : Does R (from_to (R.processor.seen q) (with_register w rd v) bytes (R.processor.seen q).flags) is fp 0 (spoils scratch [])
@@ -267,9 +264,12 @@ module _ {Q I : Type 0} (R : Rows Q I) (scratch : ℕ → Bool) (fits : I → Ty
         abbrev u : Q
         u = done R.does is q
 
+        abbrev passing : Crossed R scratch fits isa c i n S taken is refl refl t k.code h frames s q at st.runs st.state w bytes (R.processor.seen q).flags (λ y z. refl)
+        passing = crosses R scratch fits isa c i n S taken is refl refl t k h frames s q at st.runs st.state w bytes (R.processor.seen q).flags does (λ y z. refl)
+
         value-is : (R.processor.seen u).registers rd ≡ v
         value-is =
-            let z = is-fp R scratch fits isa c i n S taken is refl refl t k h frames s q at st.runs st.state in
+            let z = is-fp R scratch fits isa c i n S taken is refl refl t k.code h frames s q at st.runs st.state in
             let l = does-so q
             record { runs = st.runs; has_registers = λ r. refl; has_bytes = λ p off. refl; has_slots = λ p on. st.state.seen.stack p (in-stack fp p z.low z.high on); has_mark = refl; has_flags = refl }
             (room R scratch fits isa c i n S taken is refl refl t k h frames s q at st.runs st.state) in
@@ -279,7 +279,7 @@ module _ {Q I : Type 0} (R : Rows Q I) (scratch : ℕ → Bool) (fits : I → Ty
             in-stack f y low high on = grind (arith, low, high, on)
 
         left : (y : ℕ) → in_slots fp y ≡ false → (R.processor.seen u).bytes y ≡ bytes y
-        left = bytes-off R scratch fits isa c i n S taken is refl refl t k h frames s q at st.runs st.state w bytes (R.processor.seen q).flags does (λ y z. refl)
+        left = bytes-off R scratch fits isa c i n S taken is refl refl t k.code h frames s q at st.runs st.state w bytes (R.processor.seen q).flags (λ y z. refl) passing
 
         long-pushed : length s.pushed ≡ j
         long-pushed = count frames s (R.processor.seen q) at st.state
@@ -297,19 +297,19 @@ module _ {Q I : Type 0} (R : Rows Q I) (scratch : ℕ → Bool) (fits : I → Ty
         held : HoldsArguments target (R.processor.seen u).registers (s.pushed ++ v ∷ [])
         held = record {
           is = λ m z lt e. ⊎_elim
-              (λ f. kept-argument R scratch fits isa c i n S taken is refl refl t k h frames s q at st.runs st.state w bytes (R.processor.seen q).flags does (λ y z. refl) m lt f.0 ∙ st.state.pushed.is m z lt f.1)
+              (λ f. kept-argument R scratch fits isa c i n S taken is refl refl t k.code h frames s q at st.runs st.state w bytes (R.processor.seen q).flags (λ y z. refl) passing m lt f.0 ∙ st.state.pushed.is m z lt f.1)
               (λ f. ap (λ y. (R.processor.seen u).registers (slice_index (argument_registers target) y)) (f.0 ∙ long-pushed) ∙ value-is ∙ f.1)
               (more s.pushed v m z e);
         }
 
         agree : StatesAgree target c frames (to s v) (R.processor.seen u) S
         agree = push-agrees target c frames s (to s v) (R.processor.seen q) (R.processor.seen u) (live_before n S) S st.state
-            (stays R scratch fits isa c i n S taken is refl refl t k h frames s q at st.runs st.state w bytes (R.processor.seen q).flags does (λ y z. refl) (to s v) (goes-so s v at given) refl refl refl refl)
+            (stays R scratch fits isa c i n S taken is refl refl t k.code h frames s q at st.runs st.state w bytes (R.processor.seen q).flags (λ y z. refl) passing (to s v) (goes-so s v at given) refl refl refl refl)
             record { mem = refl; data_size = refl; args_size = refl; bytes = λ y off away. left y (or_parts (in_slots fp y) (within (lowest s.frame - 8) 8 y) off).0; outgoing = outgoing }
             record {
               registers = record {
-                is = λ r y lt alive e. kept-portable R scratch fits isa c i n S taken is refl refl t k h frames s q at st.runs st.state w bytes (R.processor.seen q).flags does (λ y z. refl) r lt alive (g.writes r)
-                    ∙ st.state.registers.is r y lt (still R scratch fits isa c i n S taken is refl refl t k h r alive (g.writes r)) e;
+                is = λ r y lt alive e. kept-portable R scratch fits isa c i n S taken is refl refl t k.code h frames s q at st.runs st.state w bytes (R.processor.seen q).flags (λ y z. refl) passing r lt alive (g.writes r)
+                    ∙ st.state.registers.is r y lt (still R scratch fits isa c i n S taken is refl refl t k.code h r alive (g.writes r)) e;
               };
               carry = tt;
               result = record { is = λ w e. cc };
@@ -317,7 +317,7 @@ module _ {Q I : Type 0} (R : Rows Q I) (scratch : ℕ → Bool) (fits : I → Ty
             }
 
         in-register-leads : Result frames s out q
-        in-register-leads = leads R scratch fits isa c i n S taken is refl refl t k h frames s q at st.runs st.state w bytes (R.processor.seen q).flags does (λ y z. refl) (to s v) (goes-so s v at given) refl out st.wrote agree
+        in-register-leads = leads R scratch fits isa c i n S taken is refl refl t k.code h frames s q at st.runs st.state w bytes (R.processor.seen q).flags (λ y z. refl) passing (to s v) (goes-so s v at given) refl out st.wrote agree
 
     -- ---- into a stack word
     module _ (many : length (argument_registers target) ≤ j) where
@@ -341,13 +341,13 @@ module _ {Q I : Type 0} (R : Rows Q I) (scratch : ℕ → Bool) (fits : I → Ty
         a = outgoing_word target (lowest s.frame) j
 
         holds : HoldsRead target n frame s (R.processor.seen q)
-        holds = read-before R scratch fits isa c i n S [] is refl refl t k plain frames s q at st.runs st.state frame is-frame
+        holds = read-before R scratch fits isa c i n S [] is refl refl t k.code plain frames s q at st.runs st.state frame is-frame
 
         frames-stacked : AreStacked (lowest s.frame) (s.frame ∷ s.callers)
-        frames-stacked = tower R scratch fits isa c i n S [] is refl refl t k plain frames s q at st.runs st.state
+        frames-stacked = tower R scratch fits isa c i n S [] is refl refl t k.code plain frames s q at st.runs st.state
 
         behind : is_inside c s.at ≡ true
-        behind = inside R scratch fits isa c i n S [] is refl refl t k plain frames s q at st.runs st.state
+        behind = inside R scratch fits isa c i n S [] is refl refl t k.code plain frames s q at st.runs st.state
 
         rests : IsSettled target c.place m ws s.frame s.callers (frames (at_call s.frame)) (homes_at c s.at)
         rests = settled target (is_inside c s.at) c.place m ws s.frame s.callers (frames (at_call s.frame)) (homes_at c s.at) behind st.state.frame
@@ -378,8 +378,11 @@ module _ {Q I : Type 0} (R : Rows Q I) (scratch : ℕ → Bool) (fits : I → Ty
         abbrev end : Q
         end = done R.does is q
 
+        abbrev storing : Crossed R scratch fits isa c i n S [] is refl refl t k.code plain frames s q at st.runs st.state ws (stored m a 8 v) (R.processor.seen q).flags (λ y z. refl)
+        storing = crosses R scratch fits isa c i n S [] is refl refl t k plain frames s q at st.runs st.state ws (stored m a 8 v) (R.processor.seen q).flags stores (λ y z. refl)
+
         leaves-bytes : (y : ℕ) → in_slots end_fp y ≡ false → (R.processor.seen end).bytes y ≡ stored m a 8 v y
-        leaves-bytes = bytes-off R scratch fits isa c i n S [] is refl refl t k plain frames s q at st.runs st.state ws (stored m a 8 v) (R.processor.seen q).flags stores (λ y z. refl)
+        leaves-bytes = bytes-off R scratch fits isa c i n S [] is refl refl t k.code plain frames s q at st.runs st.state ws (stored m a 8 v) (R.processor.seen q).flags (λ y z. refl) storing
 
         so-many : length s.pushed ≡ j
         so-many = count frames s (R.processor.seen q) at st.state
@@ -400,14 +403,14 @@ module _ {Q I : Type 0} (R : Rows Q I) (scratch : ℕ → Bool) (fits : I → Ty
         registers-hold : HoldsArguments target (R.processor.seen end).registers (s.pushed ++ v ∷ [])
         registers-hold = record {
           is = λ b z lt e. ⊎_elim
-              (λ f. kept-argument R scratch fits isa c i n S [] is refl refl t k plain frames s q at st.runs st.state ws (stored m a 8 v) (R.processor.seen q).flags stores (λ y z. refl) b lt f.0 ∙ st.state.pushed.is b z lt f.1)
+              (λ f. kept-argument R scratch fits isa c i n S [] is refl refl t k.code plain frames s q at st.runs st.state ws (stored m a 8 v) (R.processor.seen q).flags (λ y z. refl) storing b lt f.0 ∙ st.state.pushed.is b z lt f.1)
               (λ f. absurd (omega (arith, f.0, so-many, many, lt)))
               (more s.pushed v b z e);
         }
 
         agrees : StatesAgree target c frames (to s v) (R.processor.seen end) S
         agrees = push-agrees target c frames s (to s v) (R.processor.seen q) (R.processor.seen end) (live_before n S) S st.state
-            (stays R scratch fits isa c i n S [] is refl refl t k plain frames s q at st.runs st.state ws (stored m a 8 v) (R.processor.seen q).flags stores (λ y z. refl) (to s v) (goes-so s v at given) refl refl refl refl)
+            (stays R scratch fits isa c i n S [] is refl refl t k.code plain frames s q at st.runs st.state ws (stored m a 8 v) (R.processor.seen q).flags (λ y z. refl) storing (to s v) (goes-so s v at given) refl refl refl refl)
             record {
               mem = refl;
               data_size = refl;
@@ -417,8 +420,8 @@ module _ {Q I : Type 0} (R : Rows Q I) (scratch : ℕ → Bool) (fits : I → Ty
             }
             record {
               registers = record {
-                is = λ r y lt alive e. kept-portable R scratch fits isa c i n S [] is refl refl t k plain frames s q at st.runs st.state ws (stored m a 8 v) (R.processor.seen q).flags stores (λ y z. refl) r lt alive (g.writes r)
-                    ∙ st.state.registers.is r y lt (still R scratch fits isa c i n S [] is refl refl t k plain r alive (g.writes r)) e;
+                is = λ r y lt alive e. kept-portable R scratch fits isa c i n S [] is refl refl t k.code plain frames s q at st.runs st.state ws (stored m a 8 v) (R.processor.seen q).flags (λ y z. refl) storing r lt alive (g.writes r)
+                    ∙ st.state.registers.is r y lt (still R scratch fits isa c i n S [] is refl refl t k.code plain r alive (g.writes r)) e;
               };
               carry = tt;
               result = record { is = λ w e. cc };
@@ -426,7 +429,7 @@ module _ {Q I : Type 0} (R : Rows Q I) (scratch : ℕ → Bool) (fits : I → Ty
             }
 
         on-stack-leads : Result frames s out q
-        on-stack-leads = leads R scratch fits isa c i n S [] is refl refl t k plain frames s q at st.runs st.state ws (stored m a 8 v) (R.processor.seen q).flags stores (λ y z. refl) (to s v) (goes-so s v at given) refl out st.wrote agrees
+        on-stack-leads = leads R scratch fits isa c i n S [] is refl refl t k.code plain frames s q at st.runs st.state ws (stored m a 8 v) (R.processor.seen q).flags (λ y z. refl) storing (to s v) (goes-so s v at given) refl out st.wrote agrees
 
     push-law : CarriesNode R.processor c i n S
     push-law frames s returns out q at st = by (value c.addresses s x) refl (cases_lt j (length (argument_registers target)))

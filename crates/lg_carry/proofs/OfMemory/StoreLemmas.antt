@@ -44,14 +44,12 @@ use Rattle.lg_carry.specs.Memory.Stores.{IsWritable, IsOffSlots, StoreCrosses}
 use Rattle.lg_carry.specs.Nodes.Straight.{IsKept, spoils, from_to, HoldsRead}
 use Rattle.lg_carry.proofs.OfNodes.ByteLemmas.{stored-holds, stored-same}
 use Rattle.lg_carry.proofs.OfNodes.OpenLemmas.{open-there}
-use Rattle.lg_carry.proofs.OfNodes.StraightLemmas.{AreHarmless, carry-moved}
-use Rattle.lg_carry.proofs.OfMemory.PassedNodeLemmas.{u, still, tower, is-fp, open-off, open-below, open-above, read-before, stays, leads, kept-portable, kept-argument, carry-end, bytes-off, flag-is}
+use Rattle.lg_carry.proofs.OfNodes.StraightLemmas.{AreHarmless, carry-moved, u, still, tower, is-fp, open-off, open-below, open-above, read-before, stays, leads, kept-portable, kept-argument, carry-end, bytes-off, flag-is, Crossed}
+use Rattle.lg_carry.proofs.OfMemory.PassedNodeLemmas.{crosses}
 
 pub some-stored : (t : StoreType) → 0 < store_width t
 some-stored store_type.Char = omega arith
-some-stored store_type.Short = omega arith
-some-stored store_type.Int = omega arith
-some-stored store_type.Long = omega arith
+some-stored _ = omega arith
 
 module _ {Q I : Type 0} (R : Rows Q I) (scratch : ℕ → Bool) (fits : I → Type 0) (isa : IsIsa R scratch fits)
     (c : Code) (i : ℕ) (n : Node) (t : StoreType) (S : ℕ → Bool) (b : Reg) (at : Address) (is-address : IsAddress at) (frame : ℕ)
@@ -83,23 +81,23 @@ module _ {Q I : Type 0} (R : Rows Q I) (scratch : ℕ → Bool) (fits : I → Ty
     stepped = steps_so s here ∙ ap (λ z. need z (λ b'. need (f s) (λ y. store_to s t b' y))) address ∙ ap (λ z. need z (λ y. store_to s t a y)) given ∙ ap (λ b'. if b' then Goes to [] else Undefined) room
 
     off : (y : ℕ) → is_open s y ≡ true → in_slots fp y ≡ false
-    off = open-off R scratch fits isa c i n S choices body inside_op falls x k some h frames s q here st.runs st.state
+    off = open-off R scratch fits isa c i n S choices body inside_op falls x k h frames s q here st.runs st.state
 
     open-at : (y : ℕ) → a ≤ y → y < a + store_width t → is_open s y ≡ true
     open-at y le lt = let z : a + (y - a) ≡ y = omega (arith, le) in ap (is_open s) (sym z) ∙ writable_at (is_open s) a (store_width t) (y - a) room (omega (arith, le, lt))
 
     reads : HoldsRead target n frame s (R.processor.seen q)
-    reads = read-before R scratch fits isa c i n S choices body inside_op falls x k some h frames s q here st.runs st.state frame is-frame
+    reads = read-before R scratch fits isa c i n S choices body inside_op falls x k h frames s q here st.runs st.state frame is-frame
 
     there : IsWritable (R.processor.seen q) fp a (store_width t)
     there m same = mapped-all m a (store_width t) (λ y le lt.
         let may = open-at y le lt in
-        ap is_some (same y (off y may)) ∙ open-there s (R.processor.seen q) y st.state.parts st.state.seen (omega (arith, st.state.mark, st.state.seen.high)) (tower R scratch fits isa c i n S choices body inside_op falls x k some h frames s q here st.runs st.state) st.state.low may)
+        ap is_some (same y (off y may)) ∙ open-there s (R.processor.seen q) y st.state.parts st.state.seen (omega (arith, st.state.mark, st.state.seen.high)) (tower R scratch fits isa c i n S choices body inside_op falls x k h frames s q here st.runs st.state) st.state.low may)
 
     ends : a + store_width t ≤ 2 ^ 64
     ends =
         let wide = some-stored t in
-        let last = open-below R scratch fits isa c i n S choices body inside_op falls x k some h frames s q here st.runs st.state (a + (store_width t - 1)) (writable_at (is_open s) a (store_width t) (store_width t - 1) room (omega (arith, wide))) in
+        let last = open-below R scratch fits isa c i n S choices body inside_op falls x k h frames s q here st.runs st.state (a + (store_width t - 1)) (writable_at (is_open s) a (store_width t) (store_width t - 1) room (omega (arith, wide))) in
         omega (arith, last, wide)
 
     does : CrossesCode R fits (from_to (R.processor.seen q) w bytes (R.processor.seen q).flags) body fp (spilled choices) (spoils scratch choices)
@@ -107,7 +105,7 @@ module _ {Q I : Type 0} (R : Rows Q I) (scratch : ℕ → Bool) (fits : I → Ty
         let p = reads.pointer in
         let there' : IsWritable (R.processor.seen q) (w (frame_register target)) a (store_width t) = subst (λ p'. IsWritable (R.processor.seen q) p' a (store_width t)) (sym p) there in
         let off' : IsOffSlots (w (frame_register target)) a (store_width t) = λ j lt. ap (λ p'. in_slots p' (a + j)) p ∙ off (a + j) (writable_at (is_open s) a (store_width t) j room lt) in
-        let safe : LiesAbove target (w (stack_register target)) a (store_width t) = λ y le lt. open-above R scratch fits isa c i n S choices body inside_op falls x k some h frames s q here st.runs st.state y (open-at y le lt) in
+        let safe : LiesAbove target (w (stack_register target)) a (store_width t) = λ y le lt. open-above R scratch fits isa c i n S choices body inside_op falls x k h frames s q here st.runs st.state y (open-at y le lt) in
         let d = lead q a is-address reads.in_frame (gives s q a reads address) ends there' safe off' in
         subst (λ p'. CrossesCode R fits (from_to (R.processor.seen q) w bytes (R.processor.seen q).flags) body p' (spilled choices) (spoils scratch choices)) p
         (subst (λ y. CrossesCode R fits (from_to (R.processor.seen q) w (stored (R.processor.seen q).bytes a (store_width t) y) (R.processor.seen q).flags) body (w (frame_register target)) (spilled choices) (spoils scratch choices)) (holds s q v reads given) d)
@@ -115,14 +113,17 @@ module _ {Q I : Type 0} (R : Rows Q I) (scratch : ℕ → Bool) (fits : I → Ty
     keeps : (y : ℕ) → IsKept target scratch n choices y → w y ≡ w y
     keeps y z = refl
 
+    passing : Crossed R scratch fits isa c i n S choices body inside_op falls x k h frames s q here st.runs st.state w bytes (R.processor.seen q).flags keeps
+    passing = crosses R scratch fits isa c i n S choices body inside_op falls x k some h frames s q here st.runs st.state w bytes (R.processor.seen q).flags does keeps
+
     abbrev here-u : Q
-    here-u = u R scratch fits isa c i n S choices body inside_op falls x k some h frames s q here st.runs st.state w bytes (R.processor.seen q).flags does keeps
+    here-u = u R scratch fits isa c i n S choices body inside_op falls x k h frames s q here st.runs st.state w bytes (R.processor.seen q).flags keeps passing
 
     left : (y : ℕ) → in_slots fp y ≡ false → (R.processor.seen here-u).bytes y ≡ bytes y
-    left = bytes-off R scratch fits isa c i n S choices body inside_op falls x k some h frames s q here st.runs st.state w bytes (R.processor.seen q).flags does keeps
+    left = bytes-off R scratch fits isa c i n S choices body inside_op falls x k h frames s q here st.runs st.state w bytes (R.processor.seen q).flags keeps passing
 
     low-off : (y : ℕ) → y < 0x30000000 → in_slots fp y ≡ false
-    low-off y lt = false_from_ne_true (in_slots fp y) (λ on. let z = within-where (fp - 128) 40 y on in let p = (is-fp R scratch fits isa c i n S choices body inside_op falls x k some h frames s q here st.runs st.state).low in omega (arith, z.0, z.1, p, lt))
+    low-off y lt = false_from_ne_true (in_slots fp y) (λ on. let z = within-where (fp - 128) 40 y on in let p = (is-fp R scratch fits isa c i n S choices body inside_op falls x k h frames s q here st.runs st.state).low in omega (arith, z.0, z.1, p, lt))
 
     written : Writes s to (R.processor.seen q) (R.processor.seen here-u)
     written = record {
@@ -149,21 +150,21 @@ module _ {Q I : Type 0} (R : Rows Q I) (scratch : ℕ → Bool) (fits : I → Ty
 
     agree : StatesAgree target c frames to (R.processor.seen here-u) S
     agree = store-agrees target c frames s to (R.processor.seen q) (R.processor.seen here-u) (live_before n S) S st.state
-        (stays R scratch fits isa c i n S choices body inside_op falls x k some h frames s q here st.runs st.state w bytes (R.processor.seen q).flags does keeps to stepped refl refl refl refl)
+        (stays R scratch fits isa c i n S choices body inside_op falls x k h frames s q here st.runs st.state w bytes (R.processor.seen q).flags keeps passing to stepped refl refl refl refl)
         written refl
         record {
           registers = record {
-            is = λ r y lt alive e. kept-portable R scratch fits isa c i n S choices body inside_op falls x k some h frames s q here st.runs st.state w bytes (R.processor.seen q).flags does keeps r lt alive (writes r)
-                ∙ st.state.registers.is r y lt (still R scratch fits isa c i n S choices body inside_op falls x k some h r alive (writes r)) e;
+            is = λ r y lt alive e. kept-portable R scratch fits isa c i n S choices body inside_op falls x k h frames s q here st.runs st.state w bytes (R.processor.seen q).flags keeps passing r lt alive (writes r)
+                ∙ st.state.registers.is r y lt (still R scratch fits isa c i n S choices body inside_op falls x k h r alive (writes r)) e;
           };
-          carry = subst (λ z. HoldsCarry target (R.processor.seen here-u).registers (carry_of z) s.carry) (sym (flag-is R scratch fits isa c i n S choices body inside_op falls x k some h frames s q here st.runs st.state w bytes (R.processor.seen q).flags does keeps))
-              (carry-moved target s.carry w (R.processor.seen here-u).registers (carry_of (R.processor.seen q).flags) (carry-end R scratch fits isa c i n S choices body inside_op falls x k some h frames s q here st.runs st.state w bytes (R.processor.seen q).flags does keeps) st.state.carry);
+          carry = subst (λ z. HoldsCarry target (R.processor.seen here-u).registers (carry_of z) s.carry) (sym (flag-is R scratch fits isa c i n S choices body inside_op falls x k h frames s q here st.runs st.state w bytes (R.processor.seen q).flags keeps passing))
+              (carry-moved target s.carry w (R.processor.seen here-u).registers (carry_of (R.processor.seen q).flags) (carry-end R scratch fits isa c i n S choices body inside_op falls x k h frames s q here st.runs st.state w bytes (R.processor.seen q).flags keeps passing) st.state.carry);
           result = record { is = λ y e. cc };
-          pushed = record { is = λ j y lt e. kept-argument R scratch fits isa c i n S choices body inside_op falls x k some h frames s q here st.runs st.state w bytes (R.processor.seen q).flags does keeps j lt (slice_get_within s.pushed j y e) ∙ st.state.pushed.is j y lt e };
+          pushed = record { is = λ j y lt e. kept-argument R scratch fits isa c i n S choices body inside_op falls x k h frames s q here st.runs st.state w bytes (R.processor.seen q).flags keeps passing j lt (slice_get_within s.pushed j y e) ∙ st.state.pushed.is j y lt e };
         }
 
     pub goes-there : (step c.nodes c.shape c.addresses s ≡ Undefined) ⊎ Leads R.processor c frames (live_behind frames n S s) i (step c.nodes c.shape c.addresses s) out q
-    goes-there = leads R scratch fits isa c i n S choices body inside_op falls x k some h frames s q here st.runs st.state w bytes (R.processor.seen q).flags does keeps to stepped refl out st.wrote agree
+    goes-there = leads R scratch fits isa c i n S choices body inside_op falls x k h frames s q here st.runs st.state w bytes (R.processor.seen q).flags keeps passing to stepped refl out st.wrote agree
 
   abbrev Result : (Frame → ℕ → Bool) → State → List ℕ → Q → Type 0
   Result frames s out q = (step c.nodes c.shape c.addresses s ≡ Undefined) ⊎ Leads R.processor c frames (live_behind frames n S s) i (step c.nodes c.shape c.addresses s) out q

@@ -8,9 +8,7 @@ use Rattle.lg_carry.specs.Nodes.Operands.{HasWord, HaveWords, NamesBelow, NameBe
 given : (labels : ℕ) (x : Operand) → NamesBelow labels x → HasWord x → IsGiven labels x
 given labels (operand.Number v) named word = word
 given labels (operand.Label l) named word = named
-given labels (operand.Reg r) named word = tt
-given labels (operand.Host name) named word = tt
-given labels (operand.Slot k) named word = tt
+given labels _ named word = tt
 
 pub are-given : (labels : ℕ) (xs : List Operand) → NameBelow labels xs → HaveWords xs → AreGiven labels xs
 are-given labels [] named words = tt

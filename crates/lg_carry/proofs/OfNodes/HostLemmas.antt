@@ -88,51 +88,22 @@ extends (Some x) p h = h x refl
 -- ---- the entries
 found : (name : HostName) → host_by_address (host_address name) ≡ Some name
 found host.Printf = refl
-found host.Puts = refl
-found host.Putchar = refl
-found host.Exit = refl
-found host.Abort = refl
-found host.Atoi = refl
-found host.Malloc = refl
-found host.Calloc = refl
-found host.Free = refl
-found host.Memcpy = refl
-found host.Memset = refl
-found host.Strlen = refl
-found host.Strcmp = refl
+found _ = refl
 
 small : (name : HostName) → host_address name < 0x10000000
 small host.Printf = omega arith
-small host.Puts = omega arith
-small host.Putchar = omega arith
-small host.Exit = omega arith
-small host.Abort = omega arith
-small host.Atoi = omega arith
-small host.Malloc = omega arith
-small host.Calloc = omega arith
-small host.Free = omega arith
-small host.Memcpy = omega arith
-small host.Memset = omega arith
-small host.Strlen = omega arith
-small host.Strcmp = omega arith
+small _ = omega arith
 
 -- ---- the registers that a call keeps
 kept-saved : (target : Target) (v : ℕ) → v < 3 → is_kept target (portable_register target (v + 3)) ≡ true
-kept-saved X86_64 zero lt = refl
-kept-saved X86_64 (suc zero) lt = refl
-kept-saved X86_64 (suc (suc zero)) lt = refl
-kept-saved Aarch64 zero lt = refl
-kept-saved Aarch64 (suc zero) lt = refl
-kept-saved Aarch64 (suc (suc zero)) lt = refl
-kept-saved Riscv64 zero lt = refl
-kept-saved Riscv64 (suc zero) lt = refl
-kept-saved Riscv64 (suc (suc zero)) lt = refl
 kept-saved target (suc (suc (suc v))) lt = absurd (omega (arith, lt))
+kept-saved X86_64 _ lt = refl
+kept-saved Aarch64 _ lt = refl
+kept-saved Riscv64 _ lt = refl
 
 kept-frame : (target : Target) → is_kept target (frame_register target) ≡ true
 kept-frame X86_64 = refl
-kept-frame Aarch64 = refl
-kept-frame Riscv64 = refl
+kept-frame _ = refl
 
 -- ---- the step of a host function
 -- the code of a call node has arrived at the entry of a host function
@@ -253,12 +224,11 @@ module _ {Q I : Type 0} (R : Rows Q I) (ready : HostName → (ℕ → ℕ) → B
 
     saved : (r x : ℕ) → r < 6 → S r ≡ true → kept_registers s.regs r ≡ Some x → (R.processor.seen u').registers (portable_register target r) ≡ x
     saved zero x lt l e = cc
-    saved (suc zero) x lt l e = cc
-    saved (suc (suc zero)) x lt l e = cc
     saved (suc (suc (suc zero))) x lt l e = still-held 0 x (omega arith) l e
     saved (suc (suc (suc (suc zero)))) x lt l e = still-held 1 x (omega arith) l e
     saved (suc (suc (suc (suc (suc zero))))) x lt l e = still-held 2 x (omega arith) l e
     saved (suc (suc (suc (suc (suc (suc r)))))) x lt l e = absurd (omega (arith, lt))
+    saved (suc _) x lt l e = cc
 
     where-may : (a : ℕ) → within (low - 8) 8 a ≡ false → ((R.processor.seen u').bytes a ≡ (R.processor.seen q).bytes a) ⊎ (is_open s' a ≡ true)
     where-may a off = ⊎_elim

@@ -1,5 +1,5 @@
 -- Operands: a register that is read is live before its node.
-use Rattle.std.proofs.Common.{◌≡◌, ◌≢◌, ℕ, Bool, true, false, List, ◌∷◌, Some, refl, ap, ◌∙◌}
+use Rattle.std.proofs.Common.{◌≡◌, ◌≢◌, ℕ, Bool, true, List, ◌∷◌, Some, ap, ◌∙◌}
 use Rattle.std.specs.Prelude.{◌||◌, ◌&&◌, not}
 use Rattle.lg_op.specs.declared.form.Form.{Form}
 use Rattle.lg_op.specs.declared.node.Node.{Node}
@@ -15,10 +15,7 @@ use Rattle.lg_meaning.specs.States.{State, value}
 use Rattle.lg_carry.specs.NodeCode.{numbered, live_before}
 use Rattle.lg_carry.proofs.OfNodes.RegisterLemmas.{same-self, numbered-at}
 use Rattle.lg_carry.specs.Nodes.Immediates.{immediate}
-
-or-true : (x : Bool) → (x || true) ≡ true
-or-true true = refl
-or-true false = refl
+use Rattle.lg_carry.proofs.SpillChoiceLemmas.{or-true}
 
 -- a register is named by an operand at a place of its access
 pub named-here : (m : Access) (f : Form) (fs : List Form) (a : Reg) (xs : List Operand) → is_for m f ≡ true → a ≢ Fp → names m (f ∷ fs) (operand.Reg a ∷ xs) a ≡ true
@@ -35,6 +32,4 @@ read-is-live n S a h ne = ap (λ z. z || (S (number_of a) && not (numbered (is_w
 pub immediate-value : (addresses : List ℕ) (s : State) (x : Operand) (v : ℕ) → immediate x ≡ Some v → value addresses s x ≡ Some v
 immediate-value addresses s (operand.Number k) v e = e
 immediate-value addresses s (operand.Host name) v e = e
-immediate-value addresses s (operand.Reg r) v e = cc
-immediate-value addresses s (operand.Label l) v e = cc
-immediate-value addresses s (operand.Slot k) v e = cc
+immediate-value addresses s _ v e = cc

@@ -1,5 +1,5 @@
--- Nodes whose code goes straight on to the next node: how it leads there, and that it is carried.
-use Rattle.lg_carry.proofs.TurnLemmas.{still-inside, still-turns}
+-- Nodes whose code continues at the next node: how it leads there, and that it is carried where it goes straight on.
+use Rattle.lg_carry.proofs.TurnLemmas.{still-inside, still-turns, still-moves}
 use Rattle.lg_carry.proofs.BelowLemmas.{not-below}
 use Rattle.std.proofs.Common.{◌≡◌, ◌≢◌, ℕ, ◌+◌, ◌-◌, ◌%◌, ◌<◌, ◌≤◌, ◌⊎◌, ⊎_elim, inl, inr, Bool, true, false, List, [], ◌∷◌, ◌++◌, Option, Some, None, refl, sym, ap, ◌∙◌, subst, arith, length, drop, length-append, append-nil, zero-add}
 use Rattle.std.specs.Prelude.{◌||◌, ◌&&◌, not, slice_get, slice_index, slice_index_or, if◌then◌else◌}
@@ -10,7 +10,7 @@ use Rattle.std.proofs.lemmas.Bool.{false_from_ne_true, cases_Bool, or_parts, or_
 use Rattle.lg_base.specs.Conventions.{argument_registers, portable_register, frame_register, stack_register, carry_register}
 use Rattle.lg_base.specs.Layout.{code_base, most_code, frame_pointer, stack_end}
 use Rattle.lg_base.specs.Parts.{stack_base, heap_base}
-use Rattle.lg_base.specs.Runs.{Running}
+use Rattle.lg_base.specs.Runs.{Running, iter}
 use Rattle.lg_base.specs.declared.target.Target.{Target}
 use Rattle.lg_cells.specs.Cells.{within}
 use Rattle.lg_op.specs.declared.carry.Carry.{Carry}
@@ -48,17 +48,15 @@ use Rattle.lg_carry.specs.Processors.{Seen, is_below, stack_of}
 use Rattle.lg_carry.specs.Registers.{HoldsCarry, CarryIs}
 use Rattle.lg_carry.specs.Rows.{Rows, AreRows}
 use Rattle.lg_carry.specs.Stands.{lowest, StatesAgree, Stands}
-use Rattle.lg_carry.specs.Carries.{leaps, Leads}
+use Rattle.lg_carry.specs.Carries.{leaps, Leads, leaps_at, KeepsOutside}
 use Rattle.lg_carry.specs.NodeBlocks.{IsNodeBlock}
 use Rattle.lg_carry.specs.NodeCode.{numbered, live_before, live_behind, is_return, CarriesNode}
-use Rattle.lg_carry.specs.Blocks.{spellings, done, RunsBlock}
-use Rattle.lg_carry.specs.Spills.{IsFramePointer, in_slots, in_first_slots, HasRoom, Leaves, Does, wrapped, spilled, AreInOrder, lost}
+use Rattle.lg_carry.specs.Blocks.{spellings, StaysOutside}
+use Rattle.lg_carry.specs.Spills.{IsFramePointer, in_slots, in_first_slots, HasRoom, Does, wrapped, spilled, AreInOrder, lost, Looks, KeepsFrame, KeepSpilled, Work}
 use Rattle.lg_carry.specs.TemporariesApart.{IsSpare}
 use Rattle.lg_carry.specs.Frames.{at_call}
 use Rattle.lg_carry.proofs.AgreeInFrameLemmas.{settled, quiet-agrees}
 use Rattle.lg_carry.proofs.RegistersApartLemmas.{conventions-apart}
-use Rattle.lg_carry.proofs.BlockLemmas.{blocks-run}
-use Rattle.lg_carry.proofs.NodeBlockLemmas.{node-blocks-lead}
 use Rattle.lg_carry.proofs.TextShapeLemmas.{inner, shaped}
 use Rattle.lg_carry.proofs.SpillLemmas.{saves-restore}
 use Rattle.lg_carry.proofs.SpillChoiceLemmas.{choices-in-order}
@@ -66,12 +64,17 @@ use Rattle.lg_carry.proofs.StackLemmas.{stacked-running, stacked-high, slot-wher
 use Rattle.lg_carry.proofs.TemporariesApartLemmas.{none-stood-for, none-staged, tried-spare}
 use Rattle.lg_carry.specs.Nodes.Isas.{IsIsa}
 use Rattle.lg_carry.specs.TextNodes.{IsInText, IsFrameOf, IsAfterProlog, stands_inside}
-use Rattle.lg_carry.specs.Nodes.Stretches.{HasFrame}
+use Rattle.lg_carry.specs.Nodes.Stretches.{HasFrame, behind, StandsAt}
 use Rattle.lg_node.specs.Labels.{is_inner}
-use Rattle.lg_carry.specs.Nodes.Straight.{is_taken, spoils, HoldsRead, IsKept, from_to, StepsTo, ComputesNode, NeedWell, ComputingNodesCarry, PlainNodesCarry}
+use Rattle.lg_carry.specs.Nodes.Straight.{is_taken, spoils, HoldsRead, IsKept, from_to, StepsTo, ComputesNode, NeedWell, ComputingNodesCarry, PlainNodesCarry, GoesOn, HoldsWritten}
 use Rattle.lg_carry.proofs.PlaceLemmas.{nodes-stand-inside}
 use Rattle.lg_carry.proofs.OfNodes.RegisterLemmas.{stands-for, number-few, numbered-at, given}
 use Rattle.lg_carry.proofs.OfNodes.TemporaryLemmas.{IsTemporary, IsOffered, temporary, keep-taken, unspoilt, lost-taken}
+use Rattle.lg_carry.specs.Passages.{IsNodeCode, Passes}
+use Rattle.lg_carry.proofs.PassageLemmas.{passages-lead}
+use Rattle.lg_temp.proofs.Steps.{iter-zero}
+use Rattle.lg_carry.specs.Memory.Crossings.{Crosses}
+use Rattle.lg_carry.proofs.OfMemory.CrossingLemmas.{leaves-cross}
 
 clash : {b : Bool} → b ≡ true → b ≡ false → ⊥
 clash e h = cc
@@ -172,7 +175,7 @@ pub record AreHarmless {Q I : Type 0} (R : Rows Q I) (c : Code) (i : ℕ) (n : N
   pub in_order : AreInOrder R 0 choices
 
 module _ {Q I : Type 0} (R : Rows Q I) (scratch : ℕ → Bool) (fits : I → Type 0) (isa : IsIsa R scratch fits) (c : Code) (i : ℕ) (n : Node) (S : ℕ → Bool) (choices : List Choice) (body : List I) (inside_op : stands_inside n.op ≡ true) (falls : leaps n.op ≡ false)
-    (t : IsInText c i n) (k : IsNodeBlock R fits c i (wrapped R choices body)) (h : AreHarmless R c i n S choices) where
+    (t : IsInText c i n) (k : IsNodeCode R fits c i (wrapped R choices body)) (h : AreHarmless R c i n S choices) where
   abbrev target : Target
   target = R.processor.target
 
@@ -265,22 +268,19 @@ module _ {Q I : Type 0} (R : Rows Q I) (scratch : ℕ → Bool) (fits : I → Ty
     fp-held = (settled target (is_inside c s.at) c.place (R.processor.seen q).bytes w s.frame s.callers _ _ inside st.frame).pointer
 
     -- the slots lie above the stack pointer
-    pub slots-room : w (stack_register target) + 128 ≤ fp
+    slots-room : w (stack_register target) + 128 ≤ fp
     slots-room =
         let at = (settled target (is_inside c s.at) c.place (R.processor.seen q).bytes w s.frame s.callers _ _ inside st.frame).stack in
         omega (arith, at, tower.0, tower.1)
 
-    here : (R.processor.seen q).pc ≡ c.place i
+    pub here : (R.processor.seen q).pc ≡ c.place i
     here = st.here ∙ ap c.place at
 
-    stands : drop ((R.processor.seen q).pc - code_base) R.code ≡ spellings R.spelling is ++ k.code.more
-    stands = ap (λ p. drop (p - code_base) R.code) here ∙ k.code.stands
+    pub stands : drop ((R.processor.seen q).pc - code_base) R.code ≡ spellings R.spelling is ++ k.more
+    stands = ap (λ p. drop (p - code_base) R.code) here ∙ k.stands
 
-    pub room : HasRoom R is q
-    room = record {
-      low = omega (arith, here, k.code.low);
-      high = λ z. in-room R.code (spellings R.spelling is) k.code.more (R.processor.seen q).pc (omega (arith, here, k.code.low)) (some-spelled R fits isa.rows is k.code.fit z) stands isa.rows.small;
-    }
+    pub stands-at : StandsAt R false fits (c.place i) is
+    stands-at = record { low = k.low; place = k.place; more = k.more; stands = k.stands; fit = k.fit; outside = subst (λ b. All (StaysOutside R b) is) (still-moves R.processor c i n t.here (still-inside target n.op inside_op falls)) k.outside }
 
     -- where the portable machine may write there is no spill slot
     pub open-off : (a : ℕ) → is_open s a ≡ true → in_slots fp a ≡ false
@@ -324,16 +324,15 @@ module _ {Q I : Type 0} (R : Rows Q I) (scratch : ℕ → Bool) (fits : I → Ty
     }
 
     -- ---- the body leaves these registers and bytes and this flag
-    module _ (end : ℕ → ℕ) (M : ℕ → Option ℕ) (flag : Flags) (does : Does R (from_to (R.processor.seen q) end M flag) body fp (spilled choices) T)
-        (keeps : (x : ℕ) → IsKept target scratch n choices x → end x ≡ w x) where
+    module _ (end : ℕ → ℕ) (M : ℕ → Option ℕ) (flag : Flags) (keeps : (x : ℕ) → IsKept target scratch n choices x → end x ≡ w x) where
       -- but for the registers that are taken
-      abbrev left : ℕ → ℕ
+      abbrev pub left : ℕ → ℕ
       left x = if is_taken choices x then w x else end x
 
-      left-taken : (x : ℕ) → is_taken choices x ≡ true → left x ≡ w x
+      pub left-taken : (x : ℕ) → is_taken choices x ≡ true → left x ≡ w x
       left-taken x e = ap (λ b. if b then w x else end x) e
 
-      left-end : (x : ℕ) → is_taken choices x ≡ false → left x ≡ end x
+      pub left-end : (x : ℕ) → is_taken choices x ≡ false → left x ≡ end x
       left-end x e = ap (λ b. if b then w x else end x) e
 
       left-other : (x : ℕ) → IsOther x → left x ≡ w x
@@ -343,123 +342,171 @@ module _ {Q I : Type 0} (R : Rows Q I) (scratch : ℕ → Bool) (fits : I → Ty
           by (inl e) = left-taken x e
           by (inr e) = left-end x e ∙ keeps x record { written = o.written; taken = e; spoilt = o.kept; carry = o.carry }
 
-      does-left : Does R (from_to (R.processor.seen q) left M flag) body fp (0 + spilled choices) T
-      does-left q' looks room' =
-          let l = does q' looks room' in
-          record {
-            through = l.through;
-            runs = l.runs;
-            behind = l.behind;
-            registers = λ r free. l.registers r free ∙ sym (left-end r (or_parts (is_taken choices r) (scratch r) free).0);
-            bytes = l.bytes;
-            slots = λ a on. l.slots a (subst (λ m. in_first_slots fp m a ≡ true) (zero-add (spilled choices)) on);
-            has_mark = l.has_mark;
-            has_flags = l.has_flags;
-          }
+      abbrev pub work : Work
+      work = from_to (R.processor.seen q) left M flag
 
-      leaves : Leaves R is fp 0 left M (R.processor.seen q).mark flag (lost choices T) q
-      leaves = saves-restore R isa.spills choices (from_to (R.processor.seen q) left M flag) body fp 0 T is-fp st.seen.words h.in_order (keep-taken choices left w left-taken)
-          record { before = fp-held; behind = left-other (frame_register target) other-frame ∙ fp-held; unspoiled = ap (λ b. b || scratch (frame_register target)) frame-untaken ∙ other-frame.kept; room_before = slots-room; room_after = (let z = left-other (stack_register target) other-stack in let y = slots-room in omega (arith, z, y)); stack_unspoiled = ap (λ b. b || scratch (stack_register target)) stack-untaken ∙ other-stack.kept }
-          does-left q
-          record { runs = runs; has_registers = λ r. refl; has_bytes = λ p off. refl; has_slots = λ p on. st.seen.stack p (in-stack fp p is-fp.low is-fp.high on); has_mark = refl; has_flags = refl }
-          room
+      pub looks : Looks R fp w (R.processor.seen q).bytes (R.processor.seen q).mark (R.processor.seen q).flags q
+      looks = record { runs = runs; has_registers = λ r. refl; has_bytes = λ p off. refl; has_slots = λ p on. st.seen.stack p (in-stack fp p is-fp.low is-fp.high on); has_mark = refl; has_flags = refl }
 
-      abbrev u : Q
-      u = done R.does is q
+      pub keeps-frame : KeepsFrame work T (frame_register target) (stack_register target) fp
+      keeps-frame = record { before = fp-held; behind = left-other (frame_register target) other-frame ∙ fp-held; unspoiled = ap (λ b. b || scratch (frame_register target)) frame-untaken ∙ other-frame.kept; room_before = slots-room; room_after = (let z = left-other (stack_register target) other-stack in let y = slots-room in omega (arith, z, y)); stack_unspoiled = ap (λ b. b || scratch (stack_register target)) stack-untaken ∙ other-stack.kept }
 
-      run : RunsBlock R is q
-      run = blocks-run R fits isa.rows is q k.code.more k.code.fit k.block leaves.through room.low (ap R.is_place here ∙ k.code.place) stands
+      pub keeps-spilled : KeepSpilled choices left w
+      keeps-spilled = keep-taken choices left w left-taken
 
-      kept-other : (x : ℕ) → IsOther x → lost choices (is_taken choices) x ≡ false → (R.processor.seen u).registers x ≡ w x
-      kept-other x o safe = leaves.registers x (lost-taken choices scratch x o.kept safe) ∙ left-other x o
+      -- the code with its saves and restores is passed so
+      abbrev pub Crossed : Type 0
+      Crossed = Crosses R (c.place i) (behind R (c.place i) is) (length is) fp 0 left M (R.processor.seen q).mark flag (lost choices T) q
 
-      -- a register that is neither taken nor a scratch register is as the body leaves it
-      pub end-at : (x : ℕ) → is_taken choices x ≡ false → scratch x ≡ false → (R.processor.seen u).registers x ≡ end x
-      end-at x free off = leaves.registers x (lost-taken choices scratch x off (unspoilt choices (is_taken choices) x free)) ∙ left-end x free
+      module _ (leaves : Crossed) where
+        abbrev pub u : Q
+        u = leaves.end
 
-      -- the registers of the conventions
-      pub kept-portable : (r : ℕ) → r < 6 → S r ≡ true → numbered (is_written n) r ≡ false → (R.processor.seen u).registers (portable_register target r) ≡ w (portable_register target r)
-      kept-portable r lt alive off = kept-other (portable_register target r) (other-portable r lt off) (h.live r lt alive)
-
-      pub written-portable : (r : ℕ) → r < 6 → numbered (is_written n) r ≡ true → (R.processor.seen u).registers (portable_register target r) ≡ end (portable_register target r)
-      written-portable r lt on = end-at (portable_register target r) (h.unwritten r lt on) (false_from_ne_true (scratch (portable_register target r)) (λ e. (isa.apart (portable_register target r) e).portable r lt refl))
-
-      pub kept-argument : (j : ℕ) → j < length (argument_registers target) → j < length s.pushed → (R.processor.seen u).registers (slice_index (argument_registers target) j) ≡ w (slice_index (argument_registers target) j)
-      kept-argument j lt there = kept-other (slice_index (argument_registers target) j) (other-argument j lt) (h.argument j lt (omega (arith, there, st.fits.pushed, ap (pushed c.nodes.nodes) at)))
-
-      pub carry-end : (x : ℕ) → carry_register target ≡ Some x → (R.processor.seen u).registers x ≡ end x
-      carry-end x e = end-at x (carry-untaken x e) (false_from_ne_true (scratch x) (λ z. isa.carry x z e))
-
-      module _ (to : State) (goes : step c.nodes c.shape c.addresses s ≡ Goes to []) (next : to.at ≡ s.at + 1) where
-        -- the state stays in its frame
-        pub stays : to.frame ≡ s.frame → to.callers ≡ s.callers → to.mark ≡ s.mark → StaysInFrame target c s to (R.processor.seen q) (R.processor.seen u)
-        stays frame callers mark = record {
-          few = (shaped c.nodes t.well).few;
-          fits = text-keeps c i n t s to [] at (omega (arith, st.seen.low, st.mark)) (omega (arith, st.seen.high, st.mark)) st.fits goes;
-          seen = run.keeps st.seen;
-          here = leaves.behind ∙ ap (λ z. z + length (spellings R.spelling is)) here ∙ sym k.code.next ∙ ap (λ j. c.place (j + 1)) (sym at) ∙ ap c.place (sym next);
-          before = inside;
-          behind = ap (is_inside c) next ∙ ap (λ j. is_inside c (j + 1)) at ∙ (shaped c.nodes t.well).next i place.entry place.home (ap is_epilog_at t.here ∙ no-epilog n.op falls);
-          function = ap (function_at c) next ∙ ap (λ j. function_at c (j + 1)) at ∙ function-same c i n t i (i + 1) place.entry place.home (t.well.falls i place.entry place.home (ap is_epilog_at t.here ∙ no-epilog n.op falls)).0 ∙ sym (ap (function_at c) at);
-          frame = frame;
-          callers = callers;
-          pointer = kept-other (frame_register target) other-frame (unspoilt choices (is_taken choices) (frame_register target) frame-untaken);
-          stack = kept-other (stack_register target) other-stack (unspoilt choices (is_taken choices) (stack_register target) stack-untaken);
-          mark = leaves.has_mark ∙ st.mark ∙ sym mark;
+        passed : Passes R.processor c i leaves.steps q u
+        passed = record {
+          leads = leaves.passes.leads;
+          inside = λ j lt. let z = leaves.passes.inside j lt in (z.0, omega (arith, z.1, k.next));
+          outside = λ j lt. subst (λ b. KeepsOutside R.processor b (iter R.processor.machine.step j q)) (sym (still-moves R.processor c i n t.here (still-inside R.processor.target n.op inside_op falls))) (leaves.passes.outside j lt);
+          above = leaves.passes.above;
+          silent = leaves.passes.silent;
+          keeps = leaves.passes.keeps;
         }
 
-        -- where states agree after the code, it leads there
-        pub leads : (out : List ℕ) → R.processor.machine.out q ≡ out → StatesAgree target c frames to (R.processor.seen u) S
-            → (step c.nodes c.shape c.addresses s ≡ Undefined) ⊎ Leads R.processor c frames (live_behind frames n S s) i (step c.nodes c.shape c.addresses s) out q
-        leads out wrote agree =
-            let silent = ap R.processor.machine.out (sym run.leads) ∙ run.silent (length is) (omega arith) in
-            let last : Stands R.processor c frames to (out ++ []) u S = record { runs = leaves.runs; wrote = silent ∙ wrote ∙ sym (append-nil out); state = agree } in
-            inr (subst (λ z. Leads R.processor c frames (live_behind frames n S s) i z out q) (sym goes)
-            (node-blocks-lead R fits isa.rows c frames (live_behind frames n S s) i is (Goes to []) out q k here wrote leaves.through
-            (still-turns R.processor c i n t.here (still-inside target n.op inside_op falls) (length is) q)
-            (subst (λ b. Stands R.processor c frames to (out ++ []) u (if b then frames (at_call s.frame) else S)) (sym (no-return n.op falls)) last)))
+        kept-other : (x : ℕ) → IsOther x → lost choices (is_taken choices) x ≡ false → (R.processor.seen u).registers x ≡ w x
+        kept-other x o safe = leaves.registers x (lost-taken choices scratch x o.kept safe) ∙ left-other x o
 
-      -- the bytes off the slots are those that the body leaves
-      pub bytes-off : (a : ℕ) → in_slots fp a ≡ false → (R.processor.seen u).bytes a ≡ M a
-      bytes-off a off = leaves.bytes a off
+        -- a register that is neither taken nor a scratch register is as the body leaves it
+        pub end-at : (x : ℕ) → is_taken choices x ≡ false → scratch x ≡ false → (R.processor.seen u).registers x ≡ end x
+        end-at x free off = leaves.registers x (lost-taken choices scratch x off (unspoilt choices (is_taken choices) x free)) ∙ left-end x free
 
-      pub flag-is : (R.processor.seen u).flags ≡ flag
-      flag-is = leaves.has_flags
+        -- the registers of the conventions
+        pub kept-portable : (r : ℕ) → r < 6 → S r ≡ true → numbered (is_written n) r ≡ false → (R.processor.seen u).registers (portable_register target r) ≡ w (portable_register target r)
+        kept-portable r lt alive off = kept-other (portable_register target r) (other-portable r lt off) (h.live r lt alive)
+
+        pub written-portable : (r : ℕ) → r < 6 → numbered (is_written n) r ≡ true → (R.processor.seen u).registers (portable_register target r) ≡ end (portable_register target r)
+        written-portable r lt on = end-at (portable_register target r) (h.unwritten r lt on) (false_from_ne_true (scratch (portable_register target r)) (λ e. (isa.apart (portable_register target r) e).portable r lt refl))
+
+        pub kept-argument : (j : ℕ) → j < length (argument_registers target) → j < length s.pushed → (R.processor.seen u).registers (slice_index (argument_registers target) j) ≡ w (slice_index (argument_registers target) j)
+        kept-argument j lt there = kept-other (slice_index (argument_registers target) j) (other-argument j lt) (h.argument j lt (omega (arith, there, st.fits.pushed, ap (pushed c.nodes.nodes) at)))
+
+        pub carry-end : (x : ℕ) → carry_register target ≡ Some x → (R.processor.seen u).registers x ≡ end x
+        carry-end x e = end-at x (carry-untaken x e) (false_from_ne_true (scratch x) (λ z. isa.carry x z e))
+
+        module _ (to : State) (goes : step c.nodes c.shape c.addresses s ≡ Goes to []) (next : to.at ≡ s.at + 1) where
+          -- the state stays in its frame
+          pub stays : to.frame ≡ s.frame → to.callers ≡ s.callers → to.mark ≡ s.mark → StaysInFrame target c s to (R.processor.seen q) (R.processor.seen u)
+          stays frame callers mark = record {
+            few = (shaped c.nodes t.well).few;
+            fits = text-keeps c i n t s to [] at (omega (arith, st.seen.low, st.mark)) (omega (arith, st.seen.high, st.mark)) st.fits goes;
+            seen = leaves.passes.keeps st.seen;
+            here = leaves.here ∙ sym k.next ∙ ap (λ j. c.place (j + 1)) (sym at) ∙ ap c.place (sym next);
+            before = inside;
+            behind = ap (is_inside c) next ∙ ap (λ j. is_inside c (j + 1)) at ∙ (shaped c.nodes t.well).next i place.entry place.home (ap is_epilog_at t.here ∙ no-epilog n.op falls);
+            function = ap (function_at c) next ∙ ap (λ j. function_at c (j + 1)) at
+                ∙ function-same c i n t i (i + 1) place.entry place.home (t.well.falls i place.entry place.home (ap is_epilog_at t.here ∙ no-epilog n.op falls)).0
+                ∙ sym (ap (function_at c) at);
+            frame = frame;
+            callers = callers;
+            pointer = kept-other (frame_register target) other-frame (unspoilt choices (is_taken choices) (frame_register target) frame-untaken);
+            stack = kept-other (stack_register target) other-stack (unspoilt choices (is_taken choices) (stack_register target) stack-untaken);
+            mark = leaves.has_mark ∙ st.mark ∙ sym mark;
+          }
+
+          -- where states agree after the code, it leads there
+          pub leads : (out : List ℕ) → R.processor.machine.out q ≡ out → StatesAgree target c frames to (R.processor.seen u) S
+              → (step c.nodes c.shape c.addresses s ≡ Undefined) ⊎ Leads R.processor c frames (live_behind frames n S s) i (step c.nodes c.shape c.addresses s) out q
+          leads out wrote agree =
+              let silent = ap R.processor.machine.out (sym leaves.passes.leads) ∙ leaves.passes.silent leaves.steps (omega arith) in
+              let last : Stands R.processor c frames to (out ++ []) u S = record { runs = leaves.runs; wrote = silent ∙ wrote ∙ sym (append-nil out); state = agree } in
+              inr (subst (λ z. Leads R.processor c frames (live_behind frames n S s) i z out q) (sym goes)
+              (passages-lead R.processor c frames (live_behind frames n S s) i leaves.steps (Goes to []) out q u passed (still-turns R.processor c i n t.here (still-inside R.processor.target n.op inside_op falls) leaves.steps q) (omega (arith, leaves.few, k.few))
+              (λ e. let z : q ≡ u = sym (iter-zero R.processor.machine.step q) ∙ ap (λ m. iter R.processor.machine.step m q) (sym e) ∙ leaves.passes.leads in k.next ∙ sym leaves.here ∙ ap (λ m. (R.processor.seen m).pc) (sym z) ∙ here)
+              (λ e. absurd (clash (sym (ap leaps_at t.here) ∙ e) falls)) wrote
+              (subst (λ b. Stands R.processor c frames to (out ++ []) u (if b then frames (at_call s.frame) else S)) (sym (no-return n.op falls)) last)))
+
+        -- the bytes off the slots are those that the body leaves
+        pub bytes-off : (a : ℕ) → in_slots fp a ≡ false → (R.processor.seen u).bytes a ≡ M a
+        bytes-off a off = leaves.bytes a off
+
+        pub flag-is : (R.processor.seen u).flags ≡ flag
+        flag-is = leaves.has_flags
 
     -- ---- code that computes
-    module _ (p : StepsTo R scratch c n choices body s (R.processor.seen q)) where
+    module _ (end : ℕ → ℕ) (flag : Flags) (keeps : (x : ℕ) → IsKept target scratch n choices x → end x ≡ w x) (leaves : Crossed end (R.processor.seen q).bytes flag keeps)
+        (to : State) (goes : step c.nodes c.shape c.addresses s ≡ Goes to []) (on : GoesOn s to) (holds : HoldsWritten target n s to end flag) where
       abbrev v : Q
-      v = done R.does is q
+      v = leaves.end
 
-      registers : (r x : ℕ) → r < 6 → S r ≡ true → p.to.regs r ≡ Some x → (R.processor.seen v).registers (portable_register target r) ≡ x
+      registers : (r x : ℕ) → r < 6 → S r ≡ true → to.regs r ≡ Some x → (R.processor.seen v).registers (portable_register target r) ≡ x
       registers r x lt alive e = by (cases_Bool (numbered (is_written n) r))
         where
           by : (numbered (is_written n) r ≡ true) ⊎ (numbered (is_written n) r ≡ false) → (R.processor.seen v).registers (portable_register target r) ≡ x
-          by (inl on) = written-portable p.end (R.processor.seen q).bytes p.flags p.does p.keeps r lt on ∙ p.holds.written r x lt on e
-          by (inr off) = kept-portable p.end (R.processor.seen q).bytes p.flags p.does p.keeps r lt alive off ∙ st.registers.is r x lt (still r alive off) (sym (p.holds.others r lt off) ∙ e)
+          by (inl on) = written-portable end (R.processor.seen q).bytes flag keeps leaves r lt on ∙ holds.written r x lt on e
+          by (inr off) = kept-portable end (R.processor.seen q).bytes flag keeps leaves r lt alive off ∙ st.registers.is r x lt (still r alive off) (sym (holds.others r lt off) ∙ e)
 
-      argument : (j x : ℕ) → j < length (argument_registers target) → slice_get p.to.pushed j ≡ Some x → (R.processor.seen v).registers (slice_index (argument_registers target) j) ≡ x
+      argument : (j x : ℕ) → j < length (argument_registers target) → slice_get to.pushed j ≡ Some x → (R.processor.seen v).registers (slice_index (argument_registers target) j) ≡ x
       argument j x lt e =
-          let there : slice_get s.pushed j ≡ Some x = ap (λ z. slice_get z j) (sym p.on.pushed) ∙ e in
-          kept-argument p.end (R.processor.seen q).bytes p.flags p.does p.keeps j lt (slice_get_within s.pushed j x there) ∙ st.pushed.is j x lt there
+          let there : slice_get s.pushed j ≡ Some x = ap (λ z. slice_get z j) (sym on.pushed) ∙ e in
+          kept-argument end (R.processor.seen q).bytes flag keeps leaves j lt (slice_get_within s.pushed j x there) ∙ st.pushed.is j x lt there
 
-      agree : StatesAgree target c frames p.to (R.processor.seen v) S
-      agree = quiet-agrees target c frames s p.to (R.processor.seen q) (R.processor.seen v) (live_before n S) S st
-          (stays p.end (R.processor.seen q).bytes p.flags p.does p.keeps p.to p.goes p.on.at p.on.frame p.on.callers p.on.mark)
-          record { mem = p.on.mem; data_size = p.on.data_size; args_size = p.on.args_size; pushed = p.on.pushed; bytes = λ a off. bytes-off p.end (R.processor.seen q).bytes p.flags p.does p.keeps a (or_parts (in_slots fp a) (within (lowest s.frame - 8) 8 a) off).0 }
+      agree : StatesAgree target c frames to (R.processor.seen v) S
+      agree = quiet-agrees target c frames s to (R.processor.seen q) (R.processor.seen v) (live_before n S) S st
+          (stays end (R.processor.seen q).bytes flag keeps leaves to goes on.at on.frame on.callers on.mark)
+          record { mem = on.mem; data_size = on.data_size; args_size = on.args_size; pushed = on.pushed; bytes = λ a off. bytes-off end (R.processor.seen q).bytes flag keeps leaves a (or_parts (in_slots fp a) (within (lowest s.frame - 8) 8 a) off).0 }
           record {
             registers = record { is = registers };
-            carry = subst (λ f. HoldsCarry target (R.processor.seen v).registers (carry_of f) p.to.carry) (sym (flag-is p.end (R.processor.seen q).bytes p.flags p.does p.keeps))
-                (carry-moved target p.to.carry p.end (R.processor.seen v).registers (carry_of p.flags) (carry-end p.end (R.processor.seen q).bytes p.flags p.does p.keeps) p.holds.carry);
-            result = record { is = λ x e. absurd (none-some (sym p.on.answer ∙ e)) };
+            carry = subst (λ f. HoldsCarry target (R.processor.seen v).registers (carry_of f) to.carry) (sym (flag-is end (R.processor.seen q).bytes flag keeps leaves))
+                (carry-moved target to.carry end (R.processor.seen v).registers (carry_of flag) (carry-end end (R.processor.seen q).bytes flag keeps leaves) holds.carry);
+            result = record { is = λ x e. absurd (none-some (sym on.answer ∙ e)) };
             pushed = record { is = argument };
           }
         where
           none-some : {x : ℕ} → None ≡ Some x → ⊥
           none-some e = cc
 
-      pub computes : (out : List ℕ) → R.processor.machine.out q ≡ out → (step c.nodes c.shape c.addresses s ≡ Undefined) ⊎ Leads R.processor c frames (live_behind frames n S s) i (step c.nodes c.shape c.addresses s) out q
-      computes out wrote = leads p.end (R.processor.seen q).bytes p.flags p.does p.keeps p.to p.goes p.on.at out wrote agree
+      pub goes-there : (out : List ℕ) → R.processor.machine.out q ≡ out → (step c.nodes c.shape c.addresses s ≡ Undefined) ⊎ Leads R.processor c frames (live_behind frames n S s) i (step c.nodes c.shape c.addresses s) out q
+      goes-there out wrote = leads end (R.processor.seen q).bytes flag keeps leaves to goes on.at out wrote agree
+
+-- ---- code that goes straight on
+module _ {Q I : Type 0} (R : Rows Q I) (scratch : ℕ → Bool) (fits : I → Type 0) (isa : IsIsa R scratch fits) (c : Code) (i : ℕ) (n : Node) (S : ℕ → Bool) (choices : List Choice) (body : List I) (inside_op : stands_inside n.op ≡ true) (falls : leaps n.op ≡ false)
+    (t : IsInText c i n) (k : IsNodeBlock R fits c i (wrapped R choices body)) (h : AreHarmless R c i n S choices) where
+  abbrev block : List I
+  block = wrapped R choices body
+
+  module _ (frames : Frame → ℕ → Bool) (s : State) (q : Q) (at : s.at ≡ i) (runs : R.processor.machine.status q ≡ Running) (st : StatesAgree R.processor.target c frames s (R.processor.seen q) (live_before n S)) where
+    pub room : HasRoom R block q
+    room =
+        let here-is = here R scratch fits isa c i n S choices body inside_op falls t k.code h frames s q at runs st in
+        record {
+          low = omega (arith, here-is, k.code.low);
+          high = λ z. in-room R.code (spellings R.spelling block) k.code.more (R.processor.seen q).pc (omega (arith, here-is, k.code.low)) (some-spelled R fits isa.rows block k.code.fit z) (stands R scratch fits isa c i n S choices body inside_op falls t k.code h frames s q at runs st) isa.rows.small;
+        }
+
+    -- it is crossed
+    module _ (end : ℕ → ℕ) (M : ℕ → Option ℕ) (flag : Flags) (does : Does R (from_to (R.processor.seen q) end M flag) body (frame_pointer s.frame.sp) (spilled choices) (spoils scratch choices))
+        (keeps : (x : ℕ) → IsKept R.processor.target scratch n choices x → end x ≡ (R.processor.seen q).registers x) where
+      pub does-left : Does R (work R scratch fits isa c i n S choices body inside_op falls t k.code h frames s q at runs st end M flag keeps) body (frame_pointer s.frame.sp) (0 + spilled choices) (spoils scratch choices)
+      does-left q' looks-so room' =
+          let l = does q' looks-so room' in
+          record {
+            through = l.through;
+            runs = l.runs;
+            behind = l.behind;
+            registers = λ r free. l.registers r free ∙ sym (left-end R scratch fits isa c i n S choices body inside_op falls t k.code h frames s q at runs st end M flag keeps r (or_parts (is_taken choices r) (scratch r) free).0);
+            bytes = l.bytes;
+            slots = λ a on. l.slots a (subst (λ m. in_first_slots (frame_pointer s.frame.sp) m a ≡ true) (zero-add (spilled choices)) on);
+            has_mark = l.has_mark;
+            has_flags = l.has_flags;
+          }
+
+      abbrev pub crosses : Crossed R scratch fits isa c i n S choices body inside_op falls t k.code h frames s q at runs st end M flag keeps
+      crosses = leaves-cross R fits isa.rows block _ _ _ _ _ _ _ k.block q (c.place i) (stands-at R scratch fits isa c i n S choices body inside_op falls t k.code h frames s q at runs st) (here R scratch fits isa c i n S choices body inside_op falls t k.code h frames s q at runs st)
+          (saves-restore R isa.spills choices (work R scratch fits isa c i n S choices body inside_op falls t k.code h frames s q at runs st end M flag keeps) body (frame_pointer s.frame.sp) 0 (spoils scratch choices) (is-fp R scratch fits isa c i n S choices body inside_op falls t k.code h frames s q at runs st) st.seen.words h.in_order
+          (keeps-spilled R scratch fits isa c i n S choices body inside_op falls t k.code h frames s q at runs st end M flag keeps) (keeps-frame R scratch fits isa c i n S choices body inside_op falls t k.code h frames s q at runs st end M flag keeps) does-left q (looks R scratch fits isa c i n S choices body inside_op falls t k.code h frames s q at runs st end M flag keeps) room)
+
+    pub computes : StepsTo R scratch c n choices body s (R.processor.seen q) → (out : List ℕ) → R.processor.machine.out q ≡ out
+        → (step c.nodes c.shape c.addresses s ≡ Undefined) ⊎ Leads R.processor c frames (live_behind frames n S s) i (step c.nodes c.shape c.addresses s) out q
+    computes p = goes-there R scratch fits isa c i n S choices body inside_op falls t k.code h frames s q at runs st p.end p.flags p.keeps (crosses p.end (R.processor.seen q).bytes p.flags p.does p.keeps) p.to p.goes p.on p.holds
 
 -- the size of the frame of a node
 pub frame-here : (c : Code) (i : ℕ) → (frame : ℕ) × IsFrameOf c i frame
@@ -474,7 +521,7 @@ module _ {Q I : Type 0} (R : Rows Q I) (scratch : ℕ → Bool) (fits : I → Ty
   carried : (c : Code) (i : ℕ) (n : Node) (frame : ℕ) (S : ℕ → Bool) (choices : List Choice) (body : List I) → stands_inside n.op ≡ true → leaps n.op ≡ false → IsInText c i n → IsFrameOf c i frame → IsNodeBlock R fits c i (wrapped R choices body)
       → ComputesNode R scratch c i n frame choices body → AreHarmless R c i n S choices → CarriesNode R.processor c i n S
   carried c i n frame S choices body inside falls t is-frame k m h frames s returns out q at st =
-      by (m.steps s q at (read-before R scratch fits isa c i n S choices body inside falls t k h frames s q at st.runs st.state frame is-frame))
+      by (m.steps s q at (read-before R scratch fits isa c i n S choices body inside falls t k.code h frames s q at st.runs st.state frame is-frame))
     where
       by : (step c.nodes c.shape c.addresses s ≡ Undefined) ⊎ StepsTo R scratch c n choices body s (R.processor.seen q)
           → (step c.nodes c.shape c.addresses s ≡ Undefined) ⊎ Leads R.processor c frames (live_behind frames n S s) i (step c.nodes c.shape c.addresses s) out q

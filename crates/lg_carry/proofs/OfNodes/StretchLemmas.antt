@@ -17,7 +17,10 @@ pub spelled-append : {I : Type 0} (spelling : I → List ℕ) (xs ys : List I) �
 spelled-append spelling [] ys = refl
 spelled-append spelling (x ∷ xs) ys = ap (λ z. spelling x ++ z) (spelled-append spelling xs ys) ∙ sym (append_assoc (spelling x) (spellings spelling xs) (spellings spelling ys))
 
-all-front : {I : Type 0} (fits : I → Type 0) (xs ys : List I) → All fits (xs ++ ys) → All fits xs
+pub spelled-size : {I : Type 0} (spelling : I → List ℕ) (xs ys : List I) → length (spellings spelling (xs ++ ys)) ≡ length (spellings spelling xs) + length (spellings spelling ys)
+spelled-size spelling xs ys = ap length (spelled-append spelling xs ys) ∙ length-append (spellings spelling xs) (spellings spelling ys)
+
+pub all-front : {I : Type 0} (fits : I → Type 0) (xs ys : List I) → All fits (xs ++ ys) → All fits xs
 all-front fits [] ys h = λ k d lt. absurd (omega (arith, lt))
 all-front fits (x ∷ xs) ys h = by (all-front fits xs ys (λ j e l. h (suc j) e (omega (arith, l))))
   where
@@ -25,13 +28,13 @@ all-front fits (x ∷ xs) ys h = by (all-front fits xs ys (λ j e l. h (suc j) e
     by rest zero d lt = h 0 d (omega arith)
     by rest (suc k) d lt = rest k d (omega (arith, lt))
 
-all-back : {I : Type 0} (fits : I → Type 0) (xs ys : List I) → All fits (xs ++ ys) → All fits ys
+pub all-back : {I : Type 0} (fits : I → Type 0) (xs ys : List I) → All fits (xs ++ ys) → All fits ys
 all-back fits [] ys h = h
 all-back fits (x ∷ xs) ys h = all-back fits xs ys (λ k d lt. h (suc k) d (omega (arith, lt)))
 
 module _ {Q I : Type 0} (R : Rows Q I) (fits : I → Type 0) (ok : AreRows R fits) where
   -- after instructions another one may be
-  places-after : (xs : List I) (pc : ℕ) → All fits xs → R.is_place pc ≡ true → R.is_place (pc + length (spellings R.spelling xs)) ≡ true
+  pub places-after : (xs : List I) (pc : ℕ) → All fits xs → R.is_place pc ≡ true → R.is_place (pc + length (spellings R.spelling xs)) ≡ true
   places-after [] pc all at = subst (λ n. R.is_place n ≡ true) (omega arith) at
   places-after (x ∷ xs) pc all at =
       let size = length-append (R.spelling x) (spellings R.spelling xs) in

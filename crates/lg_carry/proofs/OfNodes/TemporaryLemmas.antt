@@ -11,6 +11,7 @@ use Rattle.lg_temp.specs.Chosen.{Around, order, stands_in, is_named, is_busy}
 use Rattle.lg_temp.specs.Choices.{AreFor}
 use Rattle.lg_carry.specs.Spills.{lost, KeepSpilled}
 use Rattle.lg_carry.specs.Nodes.Straight.{is_taken, spoils}
+use Rattle.lg_carry.proofs.SpillChoiceLemmas.{or-true}
 
 -- a register that is tried, or that a need names
 abbrev pub IsOffered : Around → List Need → ℕ → Type 0
@@ -27,10 +28,6 @@ equal r x e = grind (arith, e)
 
 same-self : (r : ℕ) → (r == r) ≡ true
 same-self r = grind arith
-
-or-true : (b : Bool) → (b || true) ≡ true
-or-true true = refl
-or-true false = refl
 
 restored : (b : Bool) (r x : ℕ) → r ≡ x → (b && not (x == r)) ≡ false
 restored true r x e = grind (arith, e)

@@ -13,7 +13,7 @@ use Rattle.lg_carry.specs.FinalNodes.{Code}
 use Rattle.lg_carry.specs.Processors.{Seen}
 use Rattle.lg_carry.specs.Spills.{Does, spilled}
 use Rattle.lg_carry.specs.Nodes.Straight.{spoils, from_to, HoldsRead, StepsTo, ComputesNode}
-use Rattle.lg_carry.specs.Values.Computers.{Held, Computer, held, Computes, IsComputer, all_compute, computed, HeldRead, HeldTo, ComputingNode}
+use Rattle.lg_carry.specs.Values.Computers.{Held, Computer, held, Computes, IsComputer, all_compute, computed, HeldRead, HeldTo, ComputingNode, ComputingNodesCompute}
 
 pub pointwise : (f g : ℕ → ℕ) → ((r : ℕ) → f r ≡ g r) → f ≡ g
 pointwise f g h = λ i. λ r. h r i
@@ -72,7 +72,7 @@ module _ {Q I : Type 0} (M : Computer Q I) (ok : IsComputer M) where
       }
 
   -- a node whose code only computes goes straight on
-  pub computing-computes : (scratch : ℕ → Bool) (c : Code) (i : ℕ) (n : Node) (frame : ℕ) (choices : List Choice) (body : List I) → ComputingNode M scratch c i n choices body → ComputesNode M.rows scratch c i n frame choices body
+  pub computing-computes : ComputingNodesCompute M
   computing-computes scratch c i n frame choices body k = record { steps = λ s q at h. by s (M.rows.processor.seen q) (k.steps s record { registers = (M.rows.processor.seen q).registers; flags = (M.rows.processor.seen q).flags } at (read s (M.rows.processor.seen q) h)) }
     where
       read : (s : State) (v : Seen) → HoldsRead M.rows.processor.target n frame s v → HeldRead M.rows.processor.target n s record { registers = v.registers; flags = v.flags }

@@ -5,7 +5,7 @@ use Rattle.lg_op.specs.Forms.{admits, admit}
 use Rattle.lg_op.specs.declared.form.Form.{Form}
 use Rattle.lg_op.specs.declared.form.Form.TheVariants.{Write, Read, ArgumentCount}
 use Rattle.lg_op.specs.declared.operand.Reg.{Reg}
-use Rattle.lg_op.specs.declared.operand.Reg.TheVariants.{R0, R1, R2, V0, V1, V2, Fp}
+use Rattle.lg_op.specs.declared.operand.Reg.TheVariants.{Fp}
 use Rattle.lg_op.specs.declared.operand.Operand.{Operand}
 use Rattle.lg_op.specs.declared.operand.Operand.TheVariants as operand
 
@@ -20,13 +20,8 @@ pub record IsSource (x : Operand) : Type 0 where
   pub is : x ≡ operand.Reg register
 
 pub is-target : (x : Operand) → admits Write x ≡ true → IsTarget x
-is-target (operand.Reg R0) h = record { register = R0; is = refl; named = λ e. cc }
-is-target (operand.Reg R1) h = record { register = R1; is = refl; named = λ e. cc }
-is-target (operand.Reg R2) h = record { register = R2; is = refl; named = λ e. cc }
-is-target (operand.Reg V0) h = record { register = V0; is = refl; named = λ e. cc }
-is-target (operand.Reg V1) h = record { register = V1; is = refl; named = λ e. cc }
-is-target (operand.Reg V2) h = record { register = V2; is = refl; named = λ e. cc }
 is-target (operand.Reg Fp) h = cc
+is-target (operand.Reg r) h = record { register = r; is = refl; named = λ e. cc }
 is-target (operand.Number v) h = cc
 is-target (operand.Label l) h = cc
 is-target (operand.Host name) h = cc

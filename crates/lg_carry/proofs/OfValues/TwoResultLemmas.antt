@@ -44,12 +44,7 @@ register-at r = Fp
 numbered-back : (d : Reg) → register-at (number_of d) ≡ d
 unfolding register-at
 numbered-back R0 = refl
-numbered-back R1 = refl
-numbered-back R2 = refl
-numbered-back V0 = refl
-numbered-back V1 = refl
-numbered-back V2 = refl
-numbered-back Fp = refl
+numbered-back _ = refl
 
 number-apart : (d e : Reg) → d ≢ e → number_of d ≢ number_of e
 number-apart d e ne = λ z. ne (sym (numbered-back d) ∙ ap register-at z ∙ numbered-back e)
@@ -58,13 +53,8 @@ pub registers-apart : (target : Target) (d e : Reg) → d ≢ Fp → e ≢ Fp �
 registers-apart target d e nd ne apart = λ z. number-apart d e apart ((conventions-apart target).portable (number_of d) (number_of e) (number-few d nd) (number-few e ne) (sym (stands-for target d nd) ∙ z ∙ stands-for target e ne))
 
 numbered-or : (f g : Reg → Bool) (r : ℕ) → numbered (λ q. f q || g q) r ≡ (numbered f r || numbered g r)
-numbered-or f g zero = refl
-numbered-or f g (suc zero) = refl
-numbered-or f g (suc (suc zero)) = refl
-numbered-or f g (suc (suc (suc zero))) = refl
-numbered-or f g (suc (suc (suc (suc zero)))) = refl
-numbered-or f g (suc (suc (suc (suc (suc zero))))) = refl
 numbered-or f g (suc (suc (suc (suc (suc (suc r)))))) = refl
+numbered-or f g _ = refl
 
 clash : {b : Bool} → b ≡ true → b ≡ false → ⊥
 clash e h = cc

@@ -1,7 +1,7 @@
 -- Registers that are stored one below the other, below the stack pointer.
 use Rattle.std.proofs.Common.{◌≡◌, ℕ, zero, suc, ◌+◌, ◌-◌, ◌*◌, ◌^◌, ◌<◌, ◌≤◌, ◌⊎◌, inl, inr, Bool, true, false, List, [], ◌∷◌, ◌++◌, Option, refl, sym, ap, ◌∙◌, subst, arith}
 use Rattle.std.proofs.Common.{length, length-append, append_assoc}
-use Rattle.std.specs.Prelude.{◌==◌, not, pos, negsuc, slice_index, is_some, min, take, if◌then◌else◌}
+use Rattle.std.specs.Prelude.{◌==◌, not, pos, slice_index, is_some, min, take, if◌then◌else◌}
 use Rattle.std.specs.List.{list_all}
 use Rattle.std.proofs.lemmas.Bool.{and_from, and_parts}
 use Rattle.std.proofs.lemmas.List.{length-take, take_min}
@@ -91,9 +91,6 @@ with_stored m w sp (r ∷ rs) k = with_stored (stored m (word_below sp k) 8 (w r
 pub address-above : (sp first k : ℕ) → k < 13 → 104 ≤ first → first ≤ 2048 → 0x3FF00010 + 272 ≤ sp → sp ≤ 0x40000000
     → add_words (sp - first) (word_of (pos (first - (8 + 8 * k)))) ≡ word_below sp k
 address-above sp first k few least most low high = grind (arith, few, least, most, low, high)
-
-pub address-below : (sp k : ℕ) → k < 13 → 0x3FF00010 + 272 ≤ sp → sp ≤ 0x40000000 → add_words sp (word_of (negsuc (7 + 8 * k))) ≡ word_below sp k
-address-below sp k few low high = grind (arith, few, low, high)
 
 in-stack : (sp k j : ℕ) → k < 13 → 0x3FF00010 + 272 ≤ sp → sp ≤ 0x40000000 → word_below sp k ≤ j → j < word_below sp k + 8
     → within stack_base 0x100000 j ≡ true

@@ -55,11 +55,6 @@ module _ {Q I : Type 0} (R : Rows Q I) (fits : I → Type 0) (ok : AreRows R fit
       → GoesThrough R.does R.processor.machine.status (IsAbove R) is q → Along R.does (Lowers R) is q → Sinks R.processor from (length is) q
   all-sunk moves from is q k at block through along = block-sinks R is q from (run-of moves from is q k at block through) along at
 
-  -- where none lets it fall, they rise
-  pub all-risen : (moves : Bool) (from : ℕ) (is : List I) (q : Q) → StandsAt R moves fits from is → (R.processor.seen q).pc ≡ from → IsBlock R.is_straight is
-      → GoesThrough R.does R.processor.machine.status (IsAbove R) is q → Along R.does (Raises R) is q → Rises R.processor (length is) q
-  all-risen moves from is q k at block through along = block-rises R is q (run-of moves from is q k at block through) along
-
   -- so does a part of them
   pub part-risen : (moves : Bool) (from : ℕ) (front part back : List I) (q : Q) → StandsAt R moves fits from (front ++ (part ++ back))
       → (R.processor.seen q).pc ≡ from + length (spellings R.spelling front) → IsBlock R.is_straight part

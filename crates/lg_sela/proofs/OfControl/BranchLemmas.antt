@@ -75,9 +75,7 @@ compare-computes o a b = refl
 pub second-below : (x : Operand) → second_register x < 31
 second-below (operand.Reg b) = let l = register-small b in omega (arith, l)
 second-below (operand.Number v) = omega arith
-second-below (operand.Host name) = omega arith
-second-below (operand.Label l) = omega arith
-second-below (operand.Slot k) = omega arith
+second-below x = omega arith
 
 -- ---- a number that is held
 -- the flags of a sum with the negative of a number are those of the difference

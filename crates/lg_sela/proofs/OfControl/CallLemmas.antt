@@ -1,6 +1,6 @@
 -- Calls on AArch64: `bl` and `blr` link, and a host function returns to the link.
 use Rattle.lg_carry.proofs.TurnLemmas.{one-sinks, still-sinks, ahead-more}
-use Rattle.lg_sel.specs.A64Touched.{touched_at}
+use Rattle.lg_sela_values.specs.Processor.A64Touched.{touched_at}
 use Rattle.lg_carry.proofs.BlockLemmas.{no-width}
 use Rattle.std.proofs.Common.{◌≡◌, ◌≢◌, ℕ, ◌+◌, ◌*◌, ◌%◌, ◌^◌, ◌<◌, ◌≤◌, true, List, [], ◌∷◌, Some, refl, ap, ◌∙◌, arith, length, false}
 use Rattle.std.proofs.Common.{length-append}

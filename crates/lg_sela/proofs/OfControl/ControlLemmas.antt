@@ -35,7 +35,7 @@ use Rattle.lg_sela_values.specs.declared.items.Item.{Item}
 use Rattle.lg_sela_values.specs.Items.{bytes_in, settled, ones}
 use Rattle.lg_sela_values.proofs.ItemLemmas.{settled-append, settled-ones, words-ones, ones-append}
 use Rattle.lg_sel.specs.declared.reach.Reach.{Reach}
-use Rattle.lg_sel.specs.declared.reach.Reach.TheVariants.{Short, Near, Far}
+use Rattle.lg_sel.specs.declared.reach.Reach.TheVariants.{Short}
 use Rattle.lg_sela.specs.Control.Alignments.{align_code}
 use Rattle.lg_sela.specs.Control.Branches.{is_held, taken}
 use Rattle.lg_sela.specs.Control.ControlItems.{second_register, second_items, compared_items, comparing, leads_items, branch_if_items, branch_items, sum_items, jump_items, call_items}
@@ -53,8 +53,7 @@ use Rattle.lg_sela.proofs.OfControl.TargetLemmas.{is-target, has-places}
 -- what leads to a label where a condition holds
 leads-settled : (r : Reach) (to : ℕ → ℕ) (at : ℕ) (c : Cond) (l : Label) → settled to at (leads_items r c l) ≡ leads_if r c at (to l.0)
 leads-settled Short to at c l = refl
-leads-settled Near to at c l = refl
-leads-settled Far to at c l = refl
+leads-settled o to at c l = refl
 
 -- it is after instructions and one that sets the flags
 pub branch-settled : (r : Reach) (to : ℕ → ℕ) (at : ℕ) (xs : List Instr) (sets : Instr) (c : Cond) (l : Label)
@@ -76,10 +75,7 @@ ones-settled to at xs ys = ap (settled to at) (sym (ones-append xs ys)) ∙ sett
 -- ---- the items of a node are its code
 pub second-is : (x : Operand) → second_items x ≡ ones (second_code x)
 second-is (operand.Reg b) = refl
-second-is (operand.Number v) = refl
-second-is (operand.Host name) = refl
-second-is (operand.Label l) = refl
-second-is (operand.Slot k) = refl
+second-is x = refl
 
 pub compared-is : (o : Condition) (x : Operand) → compared_items o x ≡ ones (compared_code o x)
 compared-is o (operand.Reg b) = refl
@@ -89,8 +85,7 @@ compared-is o (operand.Number v) = by (is_held o v)
     by true = refl
     by false = refl
 compared-is o (operand.Host name) = refl
-compared-is o (operand.Label l) = refl
-compared-is o (operand.Slot k) = refl
+compared-is o x = refl
 
 module _ (r : Reach) (to : ℕ → ℕ) (frame homes saved at : ℕ) where
   branches : (o : Condition) (xs : List Operand) → settled to at (branch_items r o xs) ≡ branch_of (a64_control saved r) to frame at o xs

@@ -107,13 +107,7 @@ number-comparison-fits o a v ha h = by (is_small v) refl (held-is o h)
 
 sum-fits : (o : BranchSumOp) (a b : ℕ) → a < 32 → b < 32 → IsInstr (sum_instruction o a b)
 sum-fits sum.OverflowAdd a b ha hb = (ha, ha, hb)
-sum-fits sum.OverflowAddU a b ha hb = (ha, ha, hb)
-sum-fits sum.OverflowSub a b ha hb = (ha, ha, hb)
-sum-fits sum.OverflowSubU a b ha hb = (ha, ha, hb)
-sum-fits sum.FitAdd a b ha hb = (ha, ha, hb)
-sum-fits sum.FitAddU a b ha hb = (ha, ha, hb)
-sum-fits sum.FitSub a b ha hb = (ha, ha, hb)
-sum-fits sum.FitSubU a b ha hb = (ha, ha, hb)
+sum-fits o a b ha hb = (ha, ha, hb)
 
 taken-fit : (n : ℕ) (is : List Instr) → AreItems (ones is) → AreItems (ones (take n is))
 taken-fit zero is h = tt
@@ -222,9 +216,7 @@ module _ (r : Reach) (labels frame homes saved at : ℕ) where
   second-small : (x : Operand) → second_register x < 32
   second-small (operand.Reg b) = first-small b
   second-small (operand.Number n) = omega arith
-  second-small (operand.Host name) = omega arith
-  second-small (operand.Label l) = omega arith
-  second-small (operand.Slot k) = omega arith
+  second-small x = omega arith
 
   -- or is compared with, where an instruction holds it
   compared-fits : (o : Condition) (x : Operand) → IsGiven labels x → AreItems (ones (compared_code o x))
@@ -246,8 +238,7 @@ module _ (r : Reach) (labels frame homes saved at : ℕ) where
       by false e = comparison-fits o a link ha (omega arith)
   comparing-fits o a (operand.Reg b) ha = comparison-fits o a (second_register (operand.Reg b)) ha (second-small (operand.Reg b))
   comparing-fits o a (operand.Host name) ha = comparison-fits o a link ha (omega arith)
-  comparing-fits o a (operand.Label l) ha = comparison-fits o a link ha (omega arith)
-  comparing-fits o a (operand.Slot k) ha = comparison-fits o a link ha (omega arith)
+  comparing-fits o a x ha = comparison-fits o a link ha (omega arith)
 
   -- and an instruction that sets the flags and a branch are after that
   branched : (x : Operand) (sets : Instr) (c : Cond) (l : Label) → IsGiven labels x → IsInstr sets → l.0 < labels

@@ -6,7 +6,7 @@ use Rattle.lg_sela_values.proofs.WithinLemmas.{Within, number}
 use Rattle.lg_sel.proofs.OfControl.StretchLemmas.{part-risen}
 use Rattle.lg_carry.proofs.TurnLemmas.{rises-join, still-raises, block-rises}
 use Rattle.lg_carry.specs.Carries.{Rises}
-use Rattle.lg_sel.specs.A64Touched.{touched}
+use Rattle.lg_sela_values.specs.Processor.A64Touched.{touched}
 use Rattle.lg_carry.specs.Processors.{IsOff, is_below}
 use Rattle.lg_carry.proofs.BelowLemmas.{not-below}
 use Rattle.lg_carry.proofs.BlockLemmas.{no-width}

@@ -91,10 +91,4 @@ module _ (a b x y : ℕ) (al : a < 31) (bl : b < 31) (w : Held) (ea : w.register
 
 pub sum-computes : (o : BranchSumOp) (a b : ℕ) → all_compute (sum_instruction o a b ∷ []) ≡ true
 sum-computes sum.OverflowAdd a b = refl
-sum-computes sum.OverflowAddU a b = refl
-sum-computes sum.OverflowSub a b = refl
-sum-computes sum.OverflowSubU a b = refl
-sum-computes sum.FitAdd a b = refl
-sum-computes sum.FitAddU a b = refl
-sum-computes sum.FitSub a b = refl
-sum-computes sum.FitSubU a b = refl
+sum-computes o a b = refl

@@ -50,8 +50,7 @@ word : (t : ℕ) (x : Operand) → In t → StayWithin false (word_items t (imme
 word t (operand.Number v) h = stay-ones (number_code t v) (number t v h)
 word t (operand.Host name) h = stay-ones (number_code t (host_address name)) (number t (host_address name) h)
 word t (operand.Reg r) h = tt
-word t (operand.Label l) h = tt
-word t (operand.Slot k) h = tt
+word t x h = tt
 
 second : (x : Operand) → StayWithin false (second_items x)
 second (operand.Reg r) = tt
@@ -91,18 +90,11 @@ comparing-within o a (operand.Number v) = by (is_held o v)
     by false = compared o a link
 comparing-within o a (operand.Reg r) = compared o a (register_of Aarch64 r)
 comparing-within o a (operand.Host name) = compared o a link
-comparing-within o a (operand.Label l) = compared o a link
-comparing-within o a (operand.Slot k) = compared o a link
+comparing-within o a x = compared o a link
 
 added : (o : BranchSumOp) (a b : ℕ) → In a → WritesWithin false (sum_instruction o a b)
 added sum.OverflowAdd a b h = flagged a h
-added sum.OverflowAddU a b h = flagged a h
-added sum.OverflowSub a b h = flagged a h
-added sum.OverflowSubU a b h = flagged a h
-added sum.FitAdd a b h = flagged a h
-added sum.FitAddU a b h = flagged a h
-added sum.FitSub a b h = flagged a h
-added sum.FitSubU a b h = flagged a h
+added o a b h = flagged a h
 
 leads : (r : Reach) (c : Cond) (l : Label) → StayWithin false (leads_items r c l)
 leads Short c l = (tt, tt)

@@ -50,12 +50,7 @@ home-view k few = by (nat_lt (2 ^ 64 - home_distance k) (2 ^ 63)) refl
 
 stack-whole : (t : ValueType) (k : ℕ) → stack_count t k * width t ≡ 16 + 8 * (k - 8)
 stack-whole value_type.Char k = omega arith
-stack-whole value_type.UnsignedChar k = omega arith
-stack-whole value_type.Short k = omega arith
-stack-whole value_type.UnsignedShort k = omega arith
-stack-whole value_type.Int k = omega arith
-stack-whole value_type.UnsignedInt k = omega arith
-stack-whole value_type.Long k = omega arith
+stack-whole t k = omega arith
 
 stack-leads : (sp k : ℕ) → k < 16 → 272 ≤ sp → sp ≤ 0x40000000 → add_words (frame_pointer sp) (16 + 8 * (k - 8)) ≡ stack_argument sp (k - 8)
 stack-leads sp k few low high = omega (arith, few, low, high)

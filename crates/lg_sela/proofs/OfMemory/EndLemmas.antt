@@ -1,5 +1,5 @@
 -- An instruction that loads or stores, after code that computes.
-use Rattle.lg_sel.specs.A64Touched.{touched}
+use Rattle.lg_sela_values.specs.Processor.A64Touched.{touched}
 use Rattle.lg_base.specs.declared.target.Target.TheVariants.{Aarch64}
 use Rattle.lg_carry.specs.Memory.Accesses.{LiesAbove}
 use Rattle.std.proofs.Common.{◌≡◌, ◌≢◌, ℕ, ◌+◌, ◌≤◌, Bool, false, List, [], ◌∷◌, Option, ap, ◌∙◌, arith, sym, subst}

@@ -92,18 +92,11 @@ place-good bytes (Index a v) = indexed-good bytes (register_of Aarch64 a) v (let
 -- ---- rows
 load-row-good : (t : ValueType) (rd base count : ℕ) → Fine rd → base < 32 → count < 4096 → IsGood (instr.Scaled (load_row t) rd base count)
 load-row-good value_type.Char rd base count h b c = ((h.0, b, c), h.1, refl)
-load-row-good value_type.UnsignedChar rd base count h b c = ((h.0, b, c), h.1, refl)
-load-row-good value_type.Short rd base count h b c = ((h.0, b, c), h.1, refl)
-load-row-good value_type.UnsignedShort rd base count h b c = ((h.0, b, c), h.1, refl)
-load-row-good value_type.Int rd base count h b c = ((h.0, b, c), h.1, refl)
-load-row-good value_type.UnsignedInt rd base count h b c = ((h.0, b, c), h.1, refl)
-load-row-good value_type.Long rd base count h b c = ((h.0, b, c), h.1, refl)
+load-row-good t rd base count h b c = ((h.0, b, c), h.1, refl)
 
 store-row-good : (t : StoreType) (from base count : ℕ) → from < 32 → base < 32 → count < 4096 → IsGood (instr.Scaled (store_row t) from base count)
 store-row-good store_type.Char from base count h b c = ((h, b, c), tt, refl)
-store-row-good store_type.Short from base count h b c = ((h, b, c), tt, refl)
-store-row-good store_type.Int from base count h b c = ((h, b, c), tt, refl)
-store-row-good store_type.Long from base count h b c = ((h, b, c), tt, refl)
+store-row-good t from base count h b c = ((h, b, c), tt, refl)
 
 -- a number of bytes that a row holds
 close-number : (v : ℕ) → is_close v ≡ true → (negsuc 255 ≤ℤ signed_view v) × (signed_view v ≤ℤ pos 255)
@@ -163,12 +156,7 @@ store-fits t at n =
 
 count-small : (t : ValueType) (k : ℕ) → k < 16 → stack_count t k < 4096
 count-small value_type.Char k few = omega (arith, few)
-count-small value_type.UnsignedChar k few = omega (arith, few)
-count-small value_type.Short k few = omega (arith, few)
-count-small value_type.UnsignedShort k few = omega (arith, few)
-count-small value_type.Int k few = omega (arith, few)
-count-small value_type.UnsignedInt k few = omega (arith, few)
-count-small value_type.Long k few = omega (arith, few)
+count-small t k few = omega (arith, few)
 
 home-number : (k : ℕ) → k < 8 → (negsuc 255 ≤ℤ negsuc (home_distance k - 1)) × (negsuc (home_distance k - 1) ≤ℤ pos 255)
 home-number k few = (grind (arith, few), grind (arith, few))

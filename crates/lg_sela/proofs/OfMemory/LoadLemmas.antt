@@ -1,5 +1,5 @@
 -- Loads.
-use Rattle.lg_sel.specs.A64Touched.{touched}
+use Rattle.lg_sela_values.specs.Processor.A64Touched.{touched}
 use Rattle.std.proofs.Common.{◌≡◌, ℕ, ◌*◌, ◌%◌, ◌^◌, ◌<◌, Bool, true, false, List, [], ◌∷◌, Some, refl, sym, ap, ◌∙◌, arith, length, length-append, subst}
 use Rattle.std.specs.Prelude.{◌==◌, ◌&&◌, not, if◌then◌else◌}
 use Rattle.lg_base.specs.Spaces.{loaded}
@@ -47,12 +47,7 @@ load-act value_type.Long q rd base count a v at e lt = rw at (ap (loads q rd 8 f
 -- how many bytes the row of a type loads
 row-width : (t : ValueType) → scaled_width (load_row t) ≡ width t
 row-width value_type.Char = refl
-row-width value_type.UnsignedChar = refl
-row-width value_type.Short = refl
-row-width value_type.UnsignedShort = refl
-row-width value_type.Int = refl
-row-width value_type.UnsignedInt = refl
-row-width value_type.Long = refl
+row-width t = refl
 
 load-above : (t : ValueType) (w v : ℕ → ℕ) (rd base count a sp : ℕ) → w ≡ v → v 31 ≡ sp → add_words (v base) (count * width t) ≡ a → LiesAbove Aarch64 sp a (width t)
     → IsOff (is_below Aarch64 (w 31)) (touched (instr.Scaled (load_row t) rd base count) w)

@@ -1,6 +1,6 @@
 -- Stores.
 use Rattle.lg_base.specs.Fields.{word_of}
-use Rattle.lg_sel.specs.A64Touched.{touched}
+use Rattle.lg_sela_values.specs.Processor.A64Touched.{touched}
 use Rattle.std.proofs.Common.{◌≡◌, ℕ, ◌*◌, ◌^◌, ◌<◌, Bool, true, false, List, [], ◌∷◌, refl, sym, ap, ◌∙◌, arith, length, length-append, subst}
 use Rattle.std.specs.Prelude.{if◌then◌else◌}
 use Rattle.lg_base.specs.Spaces.{mapped, stored}
@@ -38,16 +38,12 @@ use Rattle.lg_sela.proofs.OfMemory.PlaceLemmas.{placed, view-word}
 store-act : (t : StoreType) (q : CpuState) (base from count a : ℕ) → add_words (q.registers base) (count * store_width t) ≡ a → mapped q.bytes a (store_width t) ≡ true
     → act (instr.Scaled (store_row t) from base count) q ≡ arrives (add_words q.pc 4) q.registers q.flags (stored q.bytes a (store_width t) (read q.registers from)) q.mark
 store-act store_type.Char q base from count a at there = rw (at, there) refl
-store-act store_type.Short q base from count a at there = rw (at, there) refl
-store-act store_type.Int q base from count a at there = rw (at, there) refl
-store-act store_type.Long q base from count a at there = rw (at, there) refl
+store-act t q base from count a at there = rw (at, there) refl
 
 -- how many bytes it stores
 row-width : (t : StoreType) → scaled_width (store_row t) ≡ store_width t
 row-width store_type.Char = refl
-row-width store_type.Short = refl
-row-width store_type.Int = refl
-row-width store_type.Long = refl
+row-width t = refl
 
 store-above : (t : StoreType) (w v : ℕ → ℕ) (from base count a sp : ℕ) → w ≡ v → v 31 ≡ sp → add_words (v base) (count * store_width t) ≡ a → LiesAbove Aarch64 sp a (store_width t)
     → IsOff (is_below Aarch64 (w 31)) (touched (instr.Scaled (store_row t) from base count) w)

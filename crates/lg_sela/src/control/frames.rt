@@ -233,7 +233,7 @@ fn far_return() -> [Instr; 4]
 }
 
 // Appends the loads of this many of V0, V1 and V2, and of the return address.
-fn put_loads(saved: u32, items: &mut Items<Item>)
+fn put_restores(saved: u32, items: &mut Items<Item>)
     requires room { words_in items.old ≤ 50 }
     ensures loaded { items.new ≡ (items.old ++ ones (restores saved)) ++ ones (link_load ∷ []) }
     ensures few { words_in items.new ≤ words_in items.old + 4 }
@@ -247,7 +247,7 @@ pub(crate) fn put_return(frame: u32, saved: u32, items: &mut Items<Item>)
     requires { words_in items.old ≤ 50 }
     ensures { items.new ≡ items.old ++ ones (return_code saved frame) }
 {
-    put_loads(saved, items);
+    put_restores(saved, items);
     if frame < 4096 {
         items.all(&near_return(frame));
     } else {

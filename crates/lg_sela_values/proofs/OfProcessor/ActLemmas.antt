@@ -15,7 +15,7 @@ use Rattle.lg_a64.specs.declared.instruction.UnscaledOp.TheVariants.{Ldur, Stur}
 use Rattle.lg_a64.specs.declared.instruction.BranchOp.{BranchOp}
 use Rattle.lg_a64.specs.declared.instruction.BranchOp.TheVariants.{B, Bl}
 use Rattle.lg_a64.specs.declared.instruction.BranchRegOp.{BranchRegOp}
-use Rattle.lg_a64.specs.declared.instruction.BranchRegOp.TheVariants.{Br, Blr, Ret}
+use Rattle.lg_a64.specs.declared.instruction.BranchRegOp.TheVariants.{Br}
 use Rattle.lg_cpu.specs.Steps.{Effect, faults, status_of}
 use Rattle.lg_cpu.specs.States.{CpuState, arrives}
 use Rattle.lg_cpu.specs.A64Step.{read, loads, load_at, store_at, scaled_width, scaled_effect, unscaled_effect, branch_effect, branch_reg_effect, away, act}
@@ -72,8 +72,7 @@ steady_branch Bl target q = record { silent = refl; mark = refl; grows = λ a h.
 
 steady_branch_reg : (op : BranchRegOp) (target : ℕ) (q : CpuState) → Steady false q (branch_reg_effect op target q)
 steady_branch_reg Br target q = record { silent = refl; mark = refl; grows = λ a h. h; next = λ s e. cc }
-steady_branch_reg Blr target q = record { silent = refl; mark = refl; grows = λ a h. h; next = λ s e. cc }
-steady_branch_reg Ret target q = record { silent = refl; mark = refl; grows = λ a h. h; next = λ s e. cc }
+steady_branch_reg o target q = record { silent = refl; mark = refl; grows = λ a h. h; next = λ s e. cc }
 
 pub steady_act : (i : Instr) (q : CpuState) → Steady (is_straight i) q (act i q)
 steady_act (Reg op rd rn rm) q = still q _ refl refl refl refl

@@ -1,5 +1,5 @@
 -- AArch64 is a processor with instructions that only compute.
-use Rattle.lg_sel.specs.A64Touched.{touched}
+use Rattle.lg_sela_values.specs.Processor.A64Touched.{touched}
 use Rattle.lg_carry.proofs.BlockLemmas.{nothing-off}
 use Rattle.lg_carry.specs.Processors.{IsOff}
 use Rattle.std.proofs.Common.{◌≡◌, ◌≢◌, ℕ, ◌*◌, ◌<◌, Bool, true, false, List, [], ◌∷◌, Option, Some, refl, ap, ◌∙◌, arith, length}

@@ -26,7 +26,3 @@ put-twice w t x y = pointwise (put (put w t x) t y) (put w t y) (λ r. at r (r =
     at : (r : ℕ) (b : Bool) → (if b then y else (if b then x else w r)) ≡ (if b then y else w r)
     at r true = refl
     at r false = refl
-
--- 31 is not written
-pub write-last : (w : ℕ → ℕ) (x : ℕ) → write w 31 x ≡ w
-write-last w x = refl

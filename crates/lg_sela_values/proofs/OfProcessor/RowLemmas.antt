@@ -1,5 +1,5 @@
 -- The instructions are rows of a processor.
-use Rattle.lg_sel.specs.A64Touched.{touched_by}
+use Rattle.lg_sela_values.specs.Processor.A64Touched.{touched_by}
 use Rattle.lg_base.proofs.WordFrontLemmas.{word_again}
 use Rattle.lg_a64.proofs.AgainLemmas.{read_again, word_fits}
 use Rattle.lg_a64.specs.Reading.{instr_of, front_of}

@@ -42,7 +42,7 @@ use Rattle.lg_carry.specs.Disturbed.{AreSame, hidden_in}
 use Rattle.lg_carry.specs.Processors.{IsSeen, IsOff}
 use Rattle.lg_carry.proofs.TouchLemmas.{Alike, choose, arriving-alike, faulting-alike, storing-alike, mapped-alike, loaded-alike, Grows, grows-if, seen-stays, same-stepped, hidden-stays}
 use Rattle.lg_sela_values.specs.Processor.A64Rows.{nzcv, a64_processor, a64_seen}
-use Rattle.lg_sel.specs.A64Touched.{touched, touched_by, touched_at}
+use Rattle.lg_sela_values.specs.Processor.A64Touched.{touched, touched_by, touched_at}
 use Rattle.lg_sela_values.specs.Processor.Touches.{StepsLeave, StepsOverlook, StepsAreAlike, StatesArePatched}
 use Rattle.lg_sela_values.proofs.OfProcessor.ActLemmas.{steady_act}
 

@@ -17,7 +17,7 @@ use Rattle.lg_cpu.specs.A64Step.{act, effect}
 use Rattle.lg_carry.specs.Processors.{Seen, Processor, IsOff, is_below}
 use Rattle.lg_carry.specs.Rows.{Rows, AreRows}
 use Rattle.lg_carry.specs.Spills.{AreSpills}
-use Rattle.lg_sel.specs.A64Touched.{touched, touched_at}
+use Rattle.lg_sela_values.specs.Processor.A64Touched.{touched, touched_at}
 
 -- ---- registers
 -- FP, x29

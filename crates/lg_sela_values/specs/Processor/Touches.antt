@@ -7,7 +7,7 @@ use Rattle.lg_cpu.specs.Steps.{Run}
 use Rattle.lg_carry.specs.Disturbed.{hidden_in, Overlooks, IsAlike, LeavesAlone, Patches}
 use Rattle.lg_carry.specs.Processors.{IsOff}
 use Rattle.lg_sela_values.specs.Processor.A64Rows.{a64_processor}
-use Rattle.lg_sel.specs.A64Touched.{touched_at}
+use Rattle.lg_sela_values.specs.Processor.A64Touched.{touched_at}
 
 -- a step leaves alone all that it does not touch
 abbrev pub StepsLeave : Type 0

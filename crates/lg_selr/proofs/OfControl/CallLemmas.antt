@@ -1,7 +1,7 @@
 -- Calls on RV64: `jal` and `jalr` link, and a host function returns to the link.
 use Rattle.lg_selr_values.proofs.OfProcessor.RowLemmas.{are-rows}
 use Rattle.lg_carry.proofs.TurnLemmas.{one-sinks}
-use Rattle.lg_sel.specs.RvTouched.{touched_at}
+use Rattle.lg_selr_values.specs.Processor.RvTouched.{touched_at}
 use Rattle.lg_carry.proofs.BlockLemmas.{no-width}
 use Rattle.std.proofs.Common.{◌≡◌, ℕ, ◌+◌, ◌*◌, ◌/◌, ◌%◌, ◌^◌, ◌<◌, ◌≤◌, true, List, [], ◌∷◌, Some, refl, sym, ap, ◌∙◌, subst, arith, length, false}
 use Rattle.std.specs.Prelude.{◌==◌, pos, ◌-ℤ◌, if◌then◌else◌}
@@ -49,18 +49,7 @@ use Rattle.lg_selr.specs.Control.RegisterLeaps.{register_call_code}
 entry-address : (name : HostName) → add_words (sign_32 (high_part (host_address name) * 4096))
     (word_of (low_part (host_address name))) / 2 * 2 ≡ host_address name
 entry-address host.Printf = refl
-entry-address host.Puts = refl
-entry-address host.Putchar = refl
-entry-address host.Exit = refl
-entry-address host.Abort = refl
-entry-address host.Atoi = refl
-entry-address host.Malloc = refl
-entry-address host.Calloc = refl
-entry-address host.Free = refl
-entry-address host.Memcpy = refl
-entry-address host.Memset = refl
-entry-address host.Strlen = refl
-entry-address host.Strcmp = refl
+entry-address o = refl
 
 module _ (code : List ℕ) (trash : ℕ) (small : length code ≤ most_code) (bytes : AreBytes code) (word : trash < 2 ^ 64) where
   -- ---- a call of a function

@@ -1,5 +1,5 @@
 -- Computing instructions of a node are passed.
-use Rattle.std.proofs.Common.{◌≡◌, ℕ, true, List, [], ◌∷◌, Option, refl, ap, ◌∙◌}
+use Rattle.std.proofs.Common.{◌≡◌, ℕ, true, List, [], ◌∷◌, refl, ap, ◌∙◌}
 use Rattle.std.specs.Prelude.{◌&&◌}
 use Rattle.std.specs.List.{list_all}
 use Rattle.std.proofs.lemmas.Bool.{and_parts}
@@ -7,9 +7,6 @@ use Rattle.lg_rv.specs.declared.instruction.Instr.{Instr}
 use Rattle.lg_selr_values.specs.Processor.Computations.{computes, all_compute}
 use Rattle.lg_selr_values.specs.Processor.RvRows.{is_straight}
 use Rattle.lg_selr_values.proofs.OfProcessor.ComputationLemmas.{computes-straight}
-
-same-bytes : (f g : ℕ → Option ℕ) → ((a : ℕ) → f a ≡ g a) → f ≡ g
-same-bytes f g h = λ j a. h a j
 
 pub same-words : (f g : ℕ → ℕ) → ((a : ℕ) → f a ≡ g a) → f ≡ g
 same-words f g h = λ j a. h a j

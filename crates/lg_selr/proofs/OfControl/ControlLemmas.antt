@@ -33,7 +33,7 @@ use Rattle.lg_sel.proofs.OfControl.ControlLemmas as target_lemmas
 use Rattle.lg_selr_values.specs.Items.{bytes_in, settled, ones}
 use Rattle.lg_selr_values.proofs.ItemLemmas.{settled-append, settled-ones, words-ones, ones-append}
 use Rattle.lg_sel.specs.declared.reach.Reach.{Reach}
-use Rattle.lg_sel.specs.declared.reach.Reach.TheVariants.{Short, Near, Far}
+use Rattle.lg_sel.specs.declared.reach.Reach.TheVariants.{Short}
 use Rattle.lg_selr.specs.Control.Alignments.{align_code}
 use Rattle.lg_selr.specs.Control.Calls.{call_code}
 use Rattle.lg_selr.specs.Control.Jumps.{jump_code}
@@ -53,8 +53,7 @@ use Rattle.lg_selr.proofs.OfControl.TargetLemmas.{is-target, has-places}
 -- what leads to a label unless a branch is taken
 leads-settled : (r : Reach) (to : ℕ → ℕ) (at : ℕ) (o : BranchOp) (a b : ℕ) (l : Label) → settled to at (jump_unless_items r o a b l) ≡ leads_unless r o a b at (to l.0)
 leads-settled Short to at o a b l = refl
-leads-settled Near to at o a b l = refl
-leads-settled Far to at o a b l = refl
+leads-settled t to at o a b l = refl
 
 -- it is after two lists of instructions
 pub unless-settled : (r : Reach) (to : ℕ → ℕ) (at : ℕ) (xs ys : List Instr) (o : BranchOp) (a b : ℕ) (l : Label)
@@ -82,18 +81,15 @@ second-is (operand.Number v) = by (v == 0)
     by true = refl
     by false = refl
 second-is (operand.Host name) = refl
-second-is (operand.Label l) = refl
-second-is (operand.Slot k) = refl
+second-is x = refl
 
 labels-jump : (r : Reach) (to : ℕ → ℕ) (at : ℕ) (l : Label) → settled to at (label_items r 0 31 l) ≡ jump_code r at (to l.0)
 labels-jump Short to at l = refl
-labels-jump Near to at l = refl
-labels-jump Far to at l = refl
+labels-jump o to at l = refl
 
 labels-call : (r : Reach) (to : ℕ → ℕ) (at : ℕ) (l : Label) → settled to at (label_items r 1 1 l) ≡ call_code r at (to l.0)
 labels-call Short to at l = refl
-labels-call Near to at l = refl
-labels-call Far to at l = refl
+labels-call o to at l = refl
 
 module _ (r : Reach) (to : ℕ → ℕ) (frame homes saved at : ℕ) where
   branches : (o : Condition) (xs : List Operand) → settled to at (branch_items r o xs) ≡ branch_of (rv_control saved r) to frame at o xs

@@ -1,7 +1,7 @@
 -- The items of the nodes can be appended to a buffer.
 use Rattle.std.proofs.Common.{◌≡◌, ◌≢◌, ℕ, zero, suc, ◌+◌, ◌-◌, ◌*◌, ◌^◌, ◌<◌, ◌≤◌, Bool, true, false, List, [], ◌∷◌, ◌++◌, refl, sym, ap, subst, arith, length, length-append}
 use Rattle.std.proofs.lemmas.Int.{ints}
-use Rattle.std.specs.Prelude.{◌==◌, ℤ, pos, negsuc, ◌≤ℤ◌, nat_le, nat_lt, if◌then◌else◌}
+use Rattle.std.specs.Prelude.{◌==◌, pos, negsuc, ◌≤ℤ◌, nat_le, nat_lt, if◌then◌else◌}
 use Rattle.std.specs.List.{list_all}
 use Rattle.std.proofs.lemmas.Bool.{and_parts}
 use Rattle.lg_base.specs.Conventions.{argument_registers}
@@ -26,7 +26,6 @@ use Rattle.lg_op.specs.declared.operand.Operand.TheVariants as operand
 use Rattle.lg_rv.specs.declared.instruction.BranchOp.{BranchOp}
 use Rattle.lg_rv.specs.declared.instruction.Instr.{Instr}
 use Rattle.lg_rv.specs.declared.instruction.Instr.TheVariants as instr
-use Rattle.lg_rv.specs.declared.instruction.ImmOp.{ImmOp}
 use Rattle.lg_rv.specs.declared.instruction.ImmOp.TheVariants.{Ld, Addi, Addiw}
 use Rattle.lg_rv.specs.declared.instruction.RegOp.TheVariants.{Sub}
 use Rattle.lg_rv.specs.declared.instruction.UpperOp.TheVariants.{Lui}
@@ -121,9 +120,6 @@ sum-fits sum.OverflowSub a b ha hb = ((omega arith, ha, hb), ((omega arith, ha, 
 sum-fits sum.FitSub a b ha hb = ((omega arith, ha, hb), ((omega arith, ha, hb), ((ha, omega arith, omega arith, omega arith), ((omega arith, omega arith, ha), ((ha, omega arith, omega arith, omega arith), tt)))))
 sum-fits sum.OverflowSubU a b ha hb = ((omega arith, ha, hb), ((ha, ha, hb), tt))
 sum-fits sum.FitSubU a b ha hb = ((omega arith, ha, hb), ((ha, ha, hb), tt))
-
-small-imm : (o : ImmOp) (rd rs : ℕ) (n : ℤ) → rd < 32 → rs < 32 → negsuc 2047 ≤ℤ n → n ≤ℤ pos 2047 → IsItem (One (instr.Imm o rd rs n))
-small-imm o rd rs n h k low high = (h, k, low, high)
 
 far-return-fits : AreItems (ones far_return)
 far-return-fits = (
@@ -254,8 +250,7 @@ module _ (r : Reach) (labels frame homes saved at : ℕ) where
       by true = omega arith
       by false = omega arith
   second-small (operand.Host name) = omega arith
-  second-small (operand.Label l) = omega arith
-  second-small (operand.Slot k) = omega arith
+  second-small x = omega arith
 
   -- and other instructions are between that and a branch over a jump
   branched : (x : Operand) (body : List Instr) (o : BranchOp) (a b : ℕ) (l : Label) → IsGiven labels x → AreItems (ones body) → a < 32 → b < 32 → l.0 < labels

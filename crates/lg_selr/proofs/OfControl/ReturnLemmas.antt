@@ -5,7 +5,7 @@ use Rattle.lg_selr_values.proofs.OfProcessor.OutsideLemmas.{instructions-stay}
 use Rattle.lg_selr_values.proofs.WithinLemmas.{Within, number}
 use Rattle.lg_carry.proofs.TurnLemmas.{rises-join, still-raises}
 use Rattle.lg_carry.specs.Carries.{Rises}
-use Rattle.lg_sel.specs.RvTouched.{touched}
+use Rattle.lg_selr_values.specs.Processor.RvTouched.{touched}
 use Rattle.lg_carry.specs.Processors.{IsOff, is_below}
 use Rattle.lg_carry.proofs.BelowLemmas.{not-below}
 use Rattle.lg_carry.proofs.BlockLemmas.{no-width}

@@ -32,13 +32,7 @@ use Rattle.lg_selr.proofs.OfControl.TwoWayLemmas.{IsMade, second-made, two-ways}
 
 few-sums : (o : BranchSumOp) (a b : ℕ) → length (sum_code o a b) ≤ 5
 few-sums sum.OverflowAdd a b = omega arith
-few-sums sum.OverflowAddU a b = omega arith
-few-sums sum.OverflowSub a b = omega arith
-few-sums sum.OverflowSubU a b = omega arith
-few-sums sum.FitAdd a b = omega arith
-few-sums sum.FitAddU a b = omega arith
-few-sums sum.FitSub a b = omega arith
-few-sums sum.FitSubU a b = omega arith
+few-sums o a b = omega arith
 
 second-apart : (x : Operand) → second_register x ≢ 31
 second-apart (operand.Reg b) = (register-apart b).1
@@ -48,8 +42,7 @@ second-apart (operand.Number v) = by (v == 0)
     by true = λ z. cc
     by false = λ z. cc
 second-apart (operand.Host name) = λ z. cc
-second-apart (operand.Label l) = λ z. cc
-second-apart (operand.Slot k) = λ z. cc
+second-apart x = λ z. cc
 
 pub sum-branches-lead : (r : Reach) (code : List ℕ) (trash : ℕ) → length code ≤ most_code → AreBytes code → trash < 2 ^ 64
     → SumBranchesLead (rv_rows code trash) rv_scratch IsInstr (sum_branch_code r)

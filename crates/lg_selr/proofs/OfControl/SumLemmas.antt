@@ -152,10 +152,4 @@ module _ (w : ℕ → ℕ) (a b x y : ℕ) (a0 : a ≢ 0) (a1 : a ≢ 1) (a31 : 
 
 pub sum-computes : (o : BranchSumOp) (a b : ℕ) → all_compute (sum_code o a b) ≡ true
 sum-computes sum.OverflowAdd a b = refl
-sum-computes sum.OverflowAddU a b = refl
-sum-computes sum.OverflowSub a b = refl
-sum-computes sum.OverflowSubU a b = refl
-sum-computes sum.FitAdd a b = refl
-sum-computes sum.FitAddU a b = refl
-sum-computes sum.FitSub a b = refl
-sum-computes sum.FitSubU a b = refl
+sum-computes o a b = refl

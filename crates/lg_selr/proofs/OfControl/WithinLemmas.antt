@@ -47,8 +47,7 @@ word : (t : ℕ) (x : Operand) → In t → StayWithin false (word_items t (imme
 word t (operand.Number v) h = stay-ones (number_code t v) (number t v h)
 word t (operand.Host name) h = stay-ones (number_code t (host_address name)) (number t (host_address name) h)
 word t (operand.Reg r) h = tt
-word t (operand.Label l) h = tt
-word t (operand.Slot k) h = tt
+word t x h = tt
 
 compared : (x : Operand) → StayWithin false (controls.second_items x)
 compared (operand.Reg r) = tt

@@ -4,7 +4,6 @@ use Rattle.std.specs.Prelude.{ℤ, pos, negsuc, ◌≤ℤ◌, ◌==◌, if◌the
 use Rattle.std.proofs.lemmas.Int.{ints}
 use Rattle.lg_base.specs.declared.target.Target.TheVariants.{Riscv64}
 use Rattle.lg_selr_values.specs.Processor.Numbers.{is_short, high_part, low_part, number_code}
-use Rattle.lg_selr_values.specs.Processor.RvRows.{is_straight}
 use Rattle.lg_selr_values.proofs.OfProcessor.NumberCodeLemmas.{low-small}
 use Rattle.lg_selr_values.proofs.OfProcessor.RegisterLemmas.{register-small}
 use Rattle.lg_meaning.specs.Steps.{operand_at, stored_operand}
@@ -37,7 +36,7 @@ use Rattle.lg_rv.specs.declared.instruction.UpperOp.TheVariants.{Lui}
 use Rattle.lg_selr_values.proofs.GoodLemmas.{good-append, link-fine, number-good}
 use Rattle.lg_selr_values.proofs.ItemLemmas.{names-ones}
 use Rattle.lg_selr_values.proofs.WithinLemmas.{portable}
-use Rattle.lg_selr.specs.Memory.Accesses.{link, Place, at_link, near, indexed, is_low, absolute, is_whole, place_of, load_row, store_row, high_row, lower_bytes, higher_bytes, halves, store_bytes, store_skip, tester, fork, slow_load, slow_store, load_at, store_at, access_needs, load_code, store_code, load_items, store_items}
+use Rattle.lg_selr.specs.Memory.Accesses.{link, Place, at_link, near, indexed, is_low, absolute, is_whole, place_of, load_row, store_row, lower_bytes, higher_bytes, halves, store_bytes, store_skip, tester, fork, slow_load, slow_store, load_at, store_at, access_needs, load_code, store_code, load_items, store_items}
 use Rattle.lg_selr.specs.Memory.MemoryFits.{AreAccessItems}
 use Rattle.lg_carry.specs.Values.Parts.{first_taken}
 use Rattle.lg_selr_values.specs.ValueItems.{saved_items}
@@ -104,29 +103,13 @@ higher-good from u n (suc k) h g few = (
   (((omega arith, g.0, omega (arith, ints), omega (arith, ints, few)), tt, refl), higher-good u u (n + 1) k g.0 g (omega (arith, few))),
 )
 
-high-straight : (t : ValueType) (rd base : ℕ) (offset : ℤ) → is_straight (instr.Imm (high_row t) rd base offset) ≡ true
-high-straight value_type.Char rd base offset = refl
-high-straight value_type.UnsignedChar rd base offset = refl
-high-straight value_type.Short rd base offset = refl
-high-straight value_type.UnsignedShort rd base offset = refl
-high-straight value_type.Int rd base offset = refl
-high-straight value_type.UnsignedInt rd base offset = refl
-high-straight value_type.Long rd base offset = refl
-
 pub narrow : (t : ValueType) → width t ≤ 8
 narrow value_type.Char = omega arith
-narrow value_type.UnsignedChar = omega arith
-narrow value_type.Short = omega arith
-narrow value_type.UnsignedShort = omega arith
-narrow value_type.Int = omega arith
-narrow value_type.UnsignedInt = omega arith
-narrow value_type.Long = omega arith
+narrow t = omega arith
 
 pub narrow-store : (t : StoreType) → store_width t ≤ 8
 narrow-store store_type.Char = omega arith
-narrow-store store_type.Short = omega arith
-narrow-store store_type.Int = omega arith
-narrow-store store_type.Long = omega arith
+narrow-store t = omega arith
 
 -- ---- instructions that are in range and within the conventions, and may branch
 abbrev IsSound : Instr → Type 0
@@ -226,9 +209,7 @@ bytes-sound store_type.Long from u h g = halves-sound from u h g
 
 skip-small : (t : StoreType) → (store_skip t ≤ 4095) × (store_skip t % 2 ≡ 0)
 skip-small store_type.Char = (omega arith, refl)
-skip-small store_type.Short = (omega arith, refl)
-skip-small store_type.Int = (omega arith, refl)
-skip-small store_type.Long = (omega arith, refl)
+skip-small t = (omega arith, refl)
 
 store-at-good : (whole : Bool) (t : StoreType) (from u : ℕ) (p : Place) → from < 32 → Fine u → IsGoodPlace p → AreSound (store_at whole t from u p.base p.offset)
 store-at-good true t from u p h g k = (((k.base, h, k.low, k.high), tt), tt)

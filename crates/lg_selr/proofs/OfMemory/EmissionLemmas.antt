@@ -1,5 +1,5 @@
 -- Items of loads and stores that are appended to others.
-use Rattle.std.proofs.Common.{◌≡◌, ℕ, zero, suc, ◌+◌, ◌-◌, ◌*◌, ◌<◌, ◌≤◌, Bool, true, false, List, [], ◌∷◌, ◌++◌, ap, ◌∙◌, arith, length, length-append}
+use Rattle.std.proofs.Common.{◌≡◌, ℕ, zero, suc, ◌+◌, ◌-◌, ◌*◌, ◌≤◌, Bool, true, false, List, [], ◌∷◌, ◌++◌, ap, ◌∙◌, arith, length, length-append}
 use Rattle.std.specs.Prelude.{ℤ, pos, ◌==◌, ◌%◌, if◌then◌else◌}
 use Rattle.lg_rv.specs.declared.instruction.Instr.{Instr}
 use Rattle.lg_rv.specs.declared.instruction.BranchOp.TheVariants.{Beq}
@@ -11,8 +11,6 @@ use Rattle.lg_op.specs.declared.op.ValueType.{ValueType}
 use Rattle.lg_rv.specs.declared.instruction.Instr.TheVariants as instr
 use Rattle.lg_rv.specs.declared.instruction.ImmOp.TheVariants as imm
 use Rattle.lg_rv.specs.declared.instruction.RegOp.TheVariants as reg
-use Rattle.lg_rv.specs.declared.instruction.ShiftOp.TheVariants as shift
-use Rattle.lg_rv.specs.declared.instruction.StoreOp.TheVariants as row
 use Rattle.lg_base.specs.HostNames.{host_address}
 use Rattle.lg_op.specs.declared.operand.Operand.{Operand}
 use Rattle.lg_op.specs.declared.operand.Operand.TheVariants as operand
@@ -30,15 +28,6 @@ use Rattle.lg_selr.specs.Memory.PushCode.{into}
 use Rattle.lg_selr_values.proofs.EmissionLemmas.{words_more, number_few}
 use Rattle.lg_temp.specs.Abis.{register_of}
 use Rattle.lg_base.specs.declared.target.Target.TheVariants.{Riscv64}
-
--- one further byte, and the others
-pub lower_again : (d u k : ℕ) → 0 < k → lower_bytes d u k ≡ (instr.Shift shift.Slli d d 8 ∷ instr.Imm imm.Lbu u link (pos (k - 1)) ∷ instr.Reg reg.Add d d u ∷ []) ++ lower_bytes d u (k - 1)
-lower_again d u zero h = absurd (omega (arith, h))
-lower_again d u (suc k) h = let e : k ≡ suc k - 1 = omega arith in ap (λ j. instr.Shift shift.Slli d d 8 ∷ instr.Imm imm.Lbu u link (pos j) ∷ instr.Reg reg.Add d d u ∷ lower_bytes d u j) e
-
-pub higher_again : (from u n k : ℕ) → 0 < k → higher_bytes from u n k ≡ (instr.Shift shift.Srli u from 8 ∷ instr.Store row.Sb link u (pos n) ∷ []) ++ higher_bytes u u (n + 1) (k - 1)
-higher_again from u n zero h = absurd (omega (arith, h))
-higher_again from u n (suc k) h = let e : k ≡ suc k - 1 = omega arith in ap (λ j. instr.Shift shift.Srli u from 8 ∷ instr.Store row.Sb link u (pos n) ∷ higher_bytes u u (n + 1) j) e
 
 -- ---- what is appended leaves room
 -- the words of items that were appended

@@ -3,7 +3,7 @@ use Rattle.std.specs.Prelude.{ℤ}
 use Rattle.lg_base.specs.Fields.{word_of}
 use Rattle.lg_base.specs.declared.target.Target.TheVariants.{Riscv64}
 use Rattle.lg_carry.specs.Memory.Accesses.{LiesAbove}
-use Rattle.lg_sel.specs.RvTouched.{touched}
+use Rattle.lg_selr_values.specs.Processor.RvTouched.{touched}
 use Rattle.std.proofs.Common.{◌≡◌, ℕ, ◌+◌, ◌≤◌, Bool, true, false, List, [], ◌∷◌, ◌++◌, Option, refl, sym, ap, ◌∙◌, arith, subst}
 use Rattle.lg_base.specs.Layout.{code_base, most_code}
 use Rattle.lg_base.specs.Words.{add_words}

@@ -46,12 +46,7 @@ record IsFitCode (most : ℕ) (is : List Instr) : Type 0 where
 -- ---- reading an argument
 load-straight : (t : ValueType) (rd base : ℕ) (offset : ℤ) → is_straight (instr.Imm (load_row t) rd base offset) ≡ true
 load-straight value_type.Char rd base offset = refl
-load-straight value_type.UnsignedChar rd base offset = refl
-load-straight value_type.Short rd base offset = refl
-load-straight value_type.UnsignedShort rd base offset = refl
-load-straight value_type.Int rd base offset = refl
-load-straight value_type.UnsignedInt rd base offset = refl
-load-straight value_type.Long rd base offset = refl
+load-straight t rd base offset = refl
 
 offset-fits : (k : ℕ) → k < 16 → (negsuc 2047 ≤ℤ argument_offset k) × (argument_offset k ≤ℤ pos 2047)
 offset-fits k few = by (nat_lt k 8)

@@ -1,5 +1,5 @@
 -- Loads.
-use Rattle.lg_sel.specs.RvTouched.{touched, load_width}
+use Rattle.lg_selr_values.specs.Processor.RvTouched.{touched, load_width}
 use Rattle.std.proofs.Common.{◌≡◌, ◌≢◌, ℕ, zero, suc, ◌+◌, ◌-◌, ◌*◌, ◌%◌, ◌^◌, ◌<◌, ◌≤◌, Bool, true, false, List, [], ◌∷◌, ◌++◌, Option, Some, refl, sym, ap, ◌∙◌, arith, subst, length, length-append, bit_and}
 use Rattle.std.specs.Prelude.{ℤ, pos, ◌==◌, ◌||◌, ◌&&◌, if◌then◌else◌}
 use Rattle.std.specs.List.{list_all}
@@ -43,7 +43,7 @@ use Rattle.lg_carry.specs.Memory.Accesses.{Address, Base, At, Sum, Index, addres
 use Rattle.lg_carry.specs.Memory.Loads.{IsReadable, LoadCrosses}
 use Rattle.lg_carry.specs.Memory.Crossings.{CrossesCode}
 use Rattle.lg_carry.proofs.OfMemory.CrossingLemmas.{straight-crosses}
-use Rattle.lg_carry.proofs.OfMemory.ReadLemmas.{or-true}
+use Rattle.lg_carry.proofs.SpillChoiceLemmas.{or-true}
 use Rattle.lg_carry.proofs.OfMemory.AfterLemmas.{told, in-a-row}
 use Rattle.lg_carry.proofs.OfMemory.LoadLemmas.{some-wide}
 use Rattle.lg_selr.specs.Memory.Accesses.{Place, load_row, high_row, is_frame, is_whole, place_of, lower_bytes, tester, fork, slow_load, loading}
@@ -67,12 +67,7 @@ load-act value_type.Long q rd base offset a v at even e lt = rw (at, even) (ap (
 -- how many bytes the row of a type loads
 row-width : (t : ValueType) → load_width (load_row t) ≡ width t
 row-width value_type.Char = refl
-row-width value_type.UnsignedChar = refl
-row-width value_type.Short = refl
-row-width value_type.UnsignedShort = refl
-row-width value_type.Int = refl
-row-width value_type.UnsignedInt = refl
-row-width value_type.Long = refl
+row-width t = refl
 
 load-above : (t : ValueType) (w v : ℕ → ℕ) (rd base : ℕ) (offset : ℤ) (a sp : ℕ) → w ≡ v → v 2 ≡ sp → add_words (read v base) (word_of offset) ≡ a
     → LiesAbove Riscv64 sp a (width t) → IsOff (is_below Riscv64 (w 2)) (touched (instr.Imm (load_row t) rd base offset) w)
@@ -101,21 +96,11 @@ load-keeps code trash t s rd base offset a v fp n T at even readable sp low safe
 -- the row that loads the highest byte does so by its type
 high-rows : (t : ValueType) → high_row t ≡ load_row (high_type t)
 high-rows value_type.Char = refl
-high-rows value_type.UnsignedChar = refl
-high-rows value_type.Short = refl
-high-rows value_type.UnsignedShort = refl
-high-rows value_type.Int = refl
-high-rows value_type.UnsignedInt = refl
-high-rows value_type.Long = refl
+high-rows t = refl
 
 high-width : (t : ValueType) → width (high_type t) ≡ 1
 high-width value_type.Char = refl
-high-width value_type.UnsignedChar = refl
-high-width value_type.Short = refl
-high-width value_type.UnsignedShort = refl
-high-width value_type.Int = refl
-high-width value_type.UnsignedInt = refl
-high-width value_type.Long = refl
+high-width t = refl
 
 by-one : (x : ℕ) → (x % 1 == 0) ≡ true
 by-one x = grind arith
@@ -230,12 +215,7 @@ module _ (code : List ℕ) (trash : ℕ) (fp n : ℕ) (most : n ≤ 5) where
 -- ---- code that goes straight on
 pub high-straight : (t : ValueType) (rd base : ℕ) (offset : ℤ) → is_straight (instr.Imm (high_row t) rd base offset) ≡ true
 high-straight value_type.Char rd base offset = refl
-high-straight value_type.UnsignedChar rd base offset = refl
-high-straight value_type.Short rd base offset = refl
-high-straight value_type.UnsignedShort rd base offset = refl
-high-straight value_type.Int rd base offset = refl
-high-straight value_type.UnsignedInt rd base offset = refl
-high-straight value_type.Long rd base offset = refl
+high-straight t rd base offset = refl
 
 lower-straight : (d u k : ℕ) → list_all is_straight (lower_bytes d u k) ≡ true
 lower-straight d u zero = refl
@@ -253,12 +233,7 @@ slow-long t d u base offset = let l = lower-long d u (width t - 1) in let w = so
 
 row-straight : (t : ValueType) (rd base : ℕ) (offset : ℤ) → is_straight (instr.Imm (load_row t) rd base offset) ≡ true
 row-straight value_type.Char rd base offset = refl
-row-straight value_type.UnsignedChar rd base offset = refl
-row-straight value_type.Short rd base offset = refl
-row-straight value_type.UnsignedShort rd base offset = refl
-row-straight value_type.Int rd base offset = refl
-row-straight value_type.UnsignedInt rd base offset = refl
-row-straight value_type.Long rd base offset = refl
+row-straight t rd base offset = refl
 
 straight-append : (xs ys : List Instr) → list_all is_straight xs ≡ true → list_all is_straight ys ≡ true → list_all is_straight (xs ++ ys) ≡ true
 straight-append [] ys h k = k

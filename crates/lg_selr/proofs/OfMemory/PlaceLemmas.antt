@@ -7,7 +7,7 @@ use Rattle.lg_op.specs.declared.op.ValueType.{ValueType}
 use Rattle.lg_op.specs.declared.op.ValueType.TheVariants as value_type
 use Rattle.lg_op.specs.declared.op.StoreType.{StoreType}
 use Rattle.lg_op.specs.declared.op.StoreType.TheVariants as store_type
-use Rattle.lg_op.specs.declared.operand.Reg.TheVariants.{R0, R1, R2, V0, V1, V2, Fp}
+use Rattle.lg_op.specs.declared.operand.Reg.TheVariants.{R0, Fp}
 use Rattle.lg_op.specs.Operators.{width, store_width}
 use Rattle.lg_rv.specs.declared.instruction.UpperOp.TheVariants.{Lui}
 use Rattle.lg_carry.specs.Processors.{Seen}
@@ -199,11 +199,7 @@ single width a e = let z : width ≡ 1 = grind (arith, e) in ap (λ n. a % n == 
 frame-is : (a : Reg) → is_frame a ≡ true → register_of Riscv64 a ≡ 8
 frame-is Fp e = refl
 frame-is R0 e = cc
-frame-is R1 e = cc
-frame-is R2 e = cc
-frame-is V0 e = cc
-frame-is V1 e = cc
-frame-is V2 e = cc
+frame-is o e = cc
 
 pub whole-even : (width : ℕ) (at : Address) (w : ℕ → ℕ) → IsWidth width → w 8 % 16 ≡ 0 → is_whole width at ≡ true → (address_word Riscv64 w at % width == 0) ≡ true
 whole-even width (Base a) w is fp h = by (or_cases (width == 1) (is_frame a) h)

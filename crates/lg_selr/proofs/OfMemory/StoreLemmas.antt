@@ -1,5 +1,5 @@
 -- Stores.
-use Rattle.lg_sel.specs.RvTouched.{touched}
+use Rattle.lg_selr_values.specs.Processor.RvTouched.{touched}
 use Rattle.std.proofs.Common.{◌≡◌, ◌≢◌, ℕ, zero, suc, ◌+◌, ◌-◌, ◌*◌, ◌/◌, ◌%◌, ◌^◌, ◌<◌, ◌≤◌, ◌⊎◌, inl, inr, bit_and, Bool, true, false, List, [], ◌∷◌, ◌++◌, Option, refl, sym, ap, ◌∙◌, arith, subst, length}
 use Rattle.std.specs.Prelude.{ℤ, pos, ◌==◌, is_some, if◌then◌else◌}
 use Rattle.std.specs.List.{list_all}
@@ -21,7 +21,7 @@ use Rattle.lg_rv.specs.declared.instruction.ImmOp.TheVariants as imm
 use Rattle.lg_rv.specs.declared.instruction.ShiftOp.TheVariants as shift
 use Rattle.lg_rv.specs.declared.instruction.StoreOp.TheVariants as row
 use Rattle.lg_rv.specs.declared.instruction.RegOp.TheVariants as reg
-use Rattle.lg_carry.proofs.OfMemory.ReadLemmas.{or-true}
+use Rattle.lg_carry.proofs.SpillChoiceLemmas.{or-true}
 use Rattle.lg_cpu.specs.HostSteps.{put}
 use Rattle.lg_cpu.specs.States.{CpuState}
 use Rattle.lg_cpu.specs.Steps.{Run}
@@ -91,16 +91,12 @@ word-does code trash s base from offset a v fp T at even holds writable sp low s
 row-act : (t : StoreType) (q : CpuState) (base from : ℕ) (offset : ℤ) (a : ℕ) → add_words (read q.registers base) (word_of offset) ≡ a → (a % store_width t == 0) ≡ true → mapped q.bytes a (store_width t) ≡ true
     → act (instr.Store (store_row t) base from offset) q ≡ goes (add_words q.pc 4) q.registers (stored q.bytes a (store_width t) (read q.registers from)) q.mark
 row-act store_type.Char q base from offset a at even there = rw (at, even, there) refl
-row-act store_type.Short q base from offset a at even there = rw (at, even, there) refl
-row-act store_type.Int q base from offset a at even there = rw (at, even, there) refl
-row-act store_type.Long q base from offset a at even there = rw (at, even, there) refl
+row-act t q base from offset a at even there = rw (at, even, there) refl
 
 -- how many bytes it stores
 row-width : (t : StoreType) → rv_width (store_row t) ≡ store_width t
 row-width store_type.Char = refl
-row-width store_type.Short = refl
-row-width store_type.Int = refl
-row-width store_type.Long = refl
+row-width t = refl
 
 row-above : (t : StoreType) (w v : ℕ → ℕ) (base from : ℕ) (offset : ℤ) (a sp : ℕ) → w ≡ v → v 2 ≡ sp → add_words (read v base) (word_of offset) ≡ a
     → LiesAbove Riscv64 sp a (store_width t) → IsOff (is_below Riscv64 (w 2)) (touched (instr.Store (store_row t) base from offset) w)

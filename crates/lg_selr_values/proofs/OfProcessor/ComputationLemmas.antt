@@ -1,5 +1,5 @@
 -- Instructions that only compute: what they do, and lists of them.
-use Rattle.lg_sel.specs.RvTouched.{load_width, touched}
+use Rattle.lg_selr_values.specs.Processor.RvTouched.{load_width, touched}
 use Rattle.lg_carry.proofs.BlockLemmas.{nothing-off}
 use Rattle.lg_carry.specs.Processors.{IsOff}
 use Rattle.std.proofs.Common.{◌≡◌, ◌≢◌, ℕ, ◌+◌, ◌*◌, Bool, true, false, List, [], ◌∷◌, ◌++◌, refl, ap, ◌∙◌, arith, length, append-nil}

@@ -1,5 +1,5 @@
 -- RV64IM is a processor with instructions that only compute: what they make of all that is held is what they make of the registers.
-use Rattle.std.proofs.Common.{◌≡◌, ◌≢◌, ℕ, Bool, ◌<◌, true, false, List, [], ◌∷◌, Option, Some, refl, sym, ap, ◌∙◌, arith, length}
+use Rattle.std.proofs.Common.{◌≡◌, ◌≢◌, ℕ, Bool, true, false, List, [], ◌∷◌, Option, Some, refl, sym, ap, ◌∙◌, arith}
 use Rattle.lg_base.specs.Flags.{carry_of}
 use Rattle.lg_base.specs.Words.{add_words}
 use Rattle.lg_base.specs.declared.flags.Flags.TheVariants.{NoFlags}
@@ -19,7 +19,7 @@ use Rattle.lg_carry.specs.Values.Values.{StandsForNone, ComputesInto, KeepsCarry
 use Rattle.lg_selr_values.specs.Processor.RvComputers.{rv_scratch, held_by, rv_computer, InstructionsCompute}
 use Rattle.lg_selr_values.specs.Processor.RvRows.{rv_does}
 use Rattle.lg_selr_values.specs.Processor.Computations.{all_compute, computed_by, computed}
-use Rattle.lg_selr_values.proofs.OfProcessor.ComputationLemmas.{computes-act, spellings-long, computes-above}
+use Rattle.lg_selr_values.proofs.OfProcessor.ComputationLemmas.{computes-act, computes-above}
 use Rattle.lg_selr_values.proofs.OfProcessor.RowLemmas.{went}
 use Rattle.lg_selr_values.proofs.OfProcessor.SlotLemmas.{pc-next, goes-on}
 
@@ -42,10 +42,6 @@ is-computer code trash i q h runs low high =
 pub registers-computed : (is : List Instr) (w : Held) → (computer.computed held_by is w).registers ≡ computed is w.registers
 registers-computed [] w = refl
 registers-computed (i ∷ is) w = registers-computed is (held_by i w)
-
-flags-computed : (is : List Instr) (w : Held) → (computer.computed held_by is w).flags ≡ w.flags
-flags-computed [] w = refl
-flags-computed (i ∷ is) w = flags-computed is (held_by i w)
 
 -- a register after them
 pub held-at : (is : List Instr) (w : Held) (r v : ℕ) → computed is w.registers r ≡ v → (computer.computed held_by is w).registers r ≡ v

@@ -336,9 +336,5 @@ module _ (rd v : ℕ) (some : rd ≢ 0) (within : rd < 32) (small : v < 2 ^ 64) 
   pub number-computed : (w : ℕ → ℕ) → computed (number_code rd v) w ≡ put w rd v
   number-computed w = loads.whole w
 
-  -- the code before other code
-  pub computed-number : (is : List Instr) (w : ℕ → ℕ) → computed (number_code rd v ++ is) w ≡ computed is (put w rd v)
-  computed-number is w = computed-append (number_code rd v) is w ∙ ap (computed is) (loads.whole w)
-
 pub numbers-are-loaded : NumbersAreLoaded
 numbers-are-loaded rd v some within small = loaded-number rd v some within small

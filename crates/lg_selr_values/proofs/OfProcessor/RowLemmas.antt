@@ -1,5 +1,5 @@
 -- The instructions are rows of a processor.
-use Rattle.lg_sel.specs.RvTouched.{touched_by}
+use Rattle.lg_selr_values.specs.Processor.RvTouched.{touched_by}
 use Rattle.lg_base.proofs.WordFrontLemmas.{word_again}
 use Rattle.lg_rv.proofs.AgainLemmas.{read_again, word_fits}
 use Rattle.lg_rv.specs.Reading.{instr_of, front_of}

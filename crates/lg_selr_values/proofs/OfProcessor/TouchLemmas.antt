@@ -32,7 +32,7 @@ use Rattle.lg_carry.specs.Disturbed.{AreSame, hidden_in}
 use Rattle.lg_carry.specs.Processors.{IsSeen, IsOff}
 use Rattle.lg_carry.proofs.TouchLemmas.{Alike, choose, arriving-alike, faulting-alike, storing-alike, mapped-alike, loaded-alike, Grows, grows-if, seen-stays, same-stepped, hidden-stays}
 use Rattle.lg_selr_values.specs.Processor.RvRows.{rv_processor, rv_seen}
-use Rattle.lg_sel.specs.RvTouched.{load_width, touched, touched_by, touched_at}
+use Rattle.lg_selr_values.specs.Processor.RvTouched.{load_width, touched, touched_by, touched_at}
 use Rattle.lg_selr_values.specs.Processor.Touches.{StepsLeave, StepsOverlook, StepsAreAlike, StatesArePatched}
 use Rattle.lg_selr_values.proofs.OfProcessor.ActLemmas.{steady_act}
 

@@ -14,7 +14,7 @@ use Rattle.lg_base.specs.declared.flags.Flags.TheVariants.{NoFlags}
 use Rattle.lg_carry.specs.Processors.{Seen, Processor, IsOff, is_below}
 use Rattle.lg_carry.specs.Rows.{Rows, AreRows}
 use Rattle.lg_carry.specs.Spills.{AreSpills}
-use Rattle.lg_sel.specs.RvTouched.{touched, touched_at}
+use Rattle.lg_selr_values.specs.Processor.RvTouched.{touched, touched_at}
 use Rattle.lg_cpu.specs.Laws.{AreBytes}
 
 -- the carry is in a register, so there is no flag

@@ -1,6 +1,5 @@
 // What holds of the instructions of RV64IM, for the code of nodes. The functions do nothing: their contracts are the laws.
 
-ghost use Rattle.lg_selr_values.specs.Processor.Computations.{ComputationsRun};
 ghost use Rattle.lg_selr_values.specs.Processor.Destinations.{InstructionsStay};
 ghost use Rattle.lg_selr_values.specs.Processor.Numbers.{NumbersAreLoaded};
 ghost use Rattle.lg_selr_values.specs.Processor.RvComputers.{InstructionsAreIsa, InstructionsCompute};
@@ -30,11 +29,6 @@ pub fn instructions_are_isa()
 /// Those that only compute make registers of registers, and the next one follows.
 pub fn instructions_compute()
     ensures { InstructionsCompute }
-{}
-
-/// Instructions that only compute go through one after the other, and leave the registers that they compute.
-pub fn computations_run()
-    ensures { ComputationsRun }
 {}
 
 /// At most 8 instructions load any number into a register, and change no other.

@@ -36,7 +36,7 @@ use Rattle.lg_selx_values.specs.Processor.MakingNodes.{scene}
 use Rattle.lg_carry.specs.Processors.{IsOff, is_below}
 use Rattle.lg_selx_values.proofs.OfProcessor.SlotLemmas.{in-zone}
 use Rattle.lg_selx_values.specs.Processor.Makings.{makes, is_still}
-use Rattle.lg_sel.specs.X86Touched.{touched, beneath}
+use Rattle.lg_selx_values.specs.Processor.X86Touched.{touched, beneath}
 use Rattle.lg_selx_values.specs.Processor.X86Rows.{x86_processor, x86_rows, x86_seen}
 use Rattle.lg_selx_values.proofs.OfProcessor.MakingLemmas.{still-above}
 use Rattle.lg_carry.specs.Nodes.Leaps.{CallsLead, HostCallsLead}

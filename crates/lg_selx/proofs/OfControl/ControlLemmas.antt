@@ -29,7 +29,7 @@ use Rattle.lg_selx_values.specs.declared.items.Item.TheVariants.{Jump}
 use Rattle.lg_selx_values.specs.Items.{blanks, settled, ones}
 use Rattle.lg_selx_values.proofs.ItemLemmas.{settled-append, settled-ones}
 use Rattle.lg_sel.specs.declared.reach.Reach.{Reach}
-use Rattle.lg_sel.specs.declared.reach.Reach.TheVariants.{Short, Near, Far}
+use Rattle.lg_sel.specs.declared.reach.Reach.TheVariants.{Short}
 use Rattle.lg_selx.specs.Control.Alignments.{align_code}
 use Rattle.lg_selx.specs.Control.Branches.{before_branch, taken}
 use Rattle.lg_selx.specs.Control.ControlItems.{jump_kind, branch_if_items, branch_items, sum_items, jump_items, call_items}
@@ -56,8 +56,7 @@ blanks-ones (i ∷ is) = ap (λ z. spelling i ++ z) (blanks-ones is)
 
 jump-settled : (r : Reach) (to : ℕ → ℕ) (at : ℕ) (c : Cond) (l : Label) → settled to at (Jump (jump_kind r c) l.0 ∷ []) ≡ jump_if r c at (to l.0) ∷ []
 jump-settled Short to at c l = refl
-jump-settled Near to at c l = refl
-jump-settled Far to at c l = refl
+jump-settled o to at c l = refl
 
 -- a jump after instructions
 pub branch-settled : (r : Reach) (to : ℕ → ℕ) (at : ℕ) (front : List Instr) (c : Cond) (l : Label) → settled to at (branch_if_items r front c l) ≡ branch_if r front c at (to l.0)
@@ -68,8 +67,7 @@ branch-settled r to at front c l =
 
 jump-settled-plain : (r : Reach) (to : ℕ → ℕ) (at : ℕ) (l : Label) → settled to at (jump_items r (operand.Label l ∷ [])) ≡ jump_code r at (to l.0)
 jump-settled-plain Short to at l = refl
-jump-settled-plain Near to at l = refl
-jump-settled-plain Far to at l = refl
+jump-settled-plain o to at l = refl
 
 -- ---- the items of a node are its code
 module _ (r : Reach) (saved : ℕ) (to : ℕ → ℕ) (frame homes at : ℕ) where

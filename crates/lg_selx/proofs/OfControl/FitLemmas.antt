@@ -193,18 +193,7 @@ prolog-fits size homes saved h = (
 
 host-near : (name : HostName) → host_address name < 2 ^ 32
 host-near host.Printf = omega arith
-host-near host.Puts = omega arith
-host-near host.Putchar = omega arith
-host-near host.Exit = omega arith
-host-near host.Abort = omega arith
-host-near host.Atoi = omega arith
-host-near host.Malloc = omega arith
-host-near host.Calloc = omega arith
-host-near host.Free = omega arith
-host-near host.Memcpy = omega arith
-host-near host.Memset = omega arith
-host-near host.Strlen = omega arith
-host-near host.Strcmp = omega arith
+host-near o = omega arith
 
 first-small : (a : Reg) → register_of X86_64 a < 16
 first-small a = (register-portable a).small

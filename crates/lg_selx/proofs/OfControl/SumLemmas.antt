@@ -35,36 +35,18 @@ use Rattle.lg_selx.proofs.OfControl.SpareLemmas.{IsFramed, pointer-after}
 -- the flags say whether the exact result fits
 summed : (o : BranchSumOp) (f : Flags) (x y : ℕ) → x86.condition_holds (sum_taken o) (alu_flags (sum_row o) f x y 0) ≡ Some (branch_sum_goes o x y)
 summed sum.OverflowAdd f x y = refl
-summed sum.OverflowAddU f x y = refl
-summed sum.OverflowSub f x y = refl
-summed sum.OverflowSubU f x y = refl
-summed sum.FitAdd f x y = refl
-summed sum.FitAddU f x y = refl
-summed sum.FitSub f x y = refl
-summed sum.FitSubU f x y = refl
+summed o f x y = refl
 
 -- the register gets the word
 summed-made : (o : BranchSumOp) (a b : ℕ) (s : Scene)
     → combined (sum_row o) a b s
     ≡ Some (scene (put s.registers a (branch_sum_value o (s.registers a) b)) (alu_flags (sum_row o) s.flags (s.registers a) b 0) s.bytes)
 summed-made sum.OverflowAdd a b s = refl
-summed-made sum.OverflowAddU a b s = refl
-summed-made sum.OverflowSub a b s = refl
-summed-made sum.OverflowSubU a b s = refl
-summed-made sum.FitAdd a b s = refl
-summed-made sum.FitAddU a b s = refl
-summed-made sum.FitSub a b s = refl
-summed-made sum.FitSubU a b s = refl
+summed-made o a b s = refl
 
 same-row : (o : BranchSumOp) → alu_of (sum_number o) ≡ sum_row o
 same-row sum.OverflowAdd = refl
-same-row sum.OverflowAddU = refl
-same-row sum.OverflowSub = refl
-same-row sum.OverflowSubU = refl
-same-row sum.FitAdd = refl
-same-row sum.FitAddU = refl
-same-row sum.FitSub = refl
-same-row sum.FitSubU = refl
+same-row o = refl
 
 -- ---- with a number
 module _ (o : BranchSumOp) (frame a v : ℕ) (s : Scene) (small : v < 2 ^ 64) (a5 : a ≢ 5) (a4 : a ≢ 4) (framed : IsFramed frame s.registers) where

@@ -38,20 +38,17 @@ jump_long Far = 6
 
 jump-size : (r : Reach) (c : Cond) (at to : ℕ) → length (spelling (jump_if r c at to)) ≡ jump_long r
 jump-size Short c at to = refl
-jump-size Near c at to = refl
-jump-size Far c at to = refl
+jump-size o c at to = refl
 
 jump-does : (r : Reach) (c : Cond) (at to next : ℕ) (q : CpuState)
     → does (jump_if r c at to) next q ≡ goes_where q next (add_words next (word_of (pos to -ℤ pos (at + jump_long r)))) (condition_holds c q.flags)
 jump-does Short c at to next q = refl
-jump-does Near c at to next q = refl
-jump-does Far c at to next q = refl
+jump-does o c at to next q = refl
 
 -- it touches nothing
 jump-still : (r : Reach) (c : Cond) (at to : ℕ) → is_still (jump_if r c at to) ≡ true
 jump-still Short c at to = refl
-jump-still Near c at to = refl
-jump-still Far c at to = refl
+jump-still o c at to = refl
 
 -- the jump, where what is before it says whether it is taken
 module _ (code : List ℕ) (trash : ℕ) (small : length code ≤ most_code) (bytes : AreBytes code) (word : trash < 2 ^ 64)

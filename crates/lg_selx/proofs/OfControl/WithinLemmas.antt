@@ -100,8 +100,7 @@ before-sum frame o a (operand.Slot k) = tt
 -- a jump writes none
 led : (r : Reach) (c : Cond) (l : ℕ) → StaysWithin false (Jump (jump_kind r c) l)
 led Short c l = tt
-led Near c l = tt
-led Far c l = tt
+led o c l = tt
 
 branched : (r : Reach) (frame : ℕ) (o : Condition) (xs : List Operand) → StayWithin false (branch_items r frame o xs)
 branched r frame o (operand.Label l ∷ operand.Reg a ∷ x ∷ []) =

@@ -119,8 +119,7 @@ number-word : (x : Operand) → ((v : ℕ) → x ≡ operand.Number v → v < 2 
 number-word (operand.Number v) h = h v refl
 number-word (operand.Host name) h = host-small name
 number-word (operand.Reg r) h = omega arith
-number-word (operand.Label l) h = omega arith
-number-word (operand.Slot k) h = omega arith
+number-word x h = omega arith
 
 address-fine : (at : Addressing) (x y : Operand) → ((v : ℕ) → x ≡ operand.Number v → v < 2 ^ 64) → ((v : ℕ) → y ≡ operand.Number v → v < 2 ^ 64)
     → IsAddress (address_of at x y)

@@ -46,12 +46,7 @@ load-made value_type.Long s d base disp a v at e lt = rw at (ap (sets_loaded Ld6
 
 pub load-wide : (t : ValueType) → load_width (load_row t) ≡ width t
 load-wide value_type.Char = refl
-load-wide value_type.UnsignedChar = refl
-load-wide value_type.Short = refl
-load-wide value_type.UnsignedShort = refl
-load-wide value_type.Int = refl
-load-wide value_type.UnsignedInt = refl
-load-wide value_type.Long = refl
+load-wide t = refl
 
 -- a spare register is not the stack pointer
 spare-apart : (u d : ℕ) → d ≢ 4 → (u ≡ 5) ⊎ (u ≡ d) → 4 ≢ u

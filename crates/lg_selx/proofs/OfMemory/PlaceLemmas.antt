@@ -95,8 +95,7 @@ pub record IsLoadSpare (t d : ℕ) (at : Address) : Type 0 where
 off-pointer : (d : ℕ) (at : Address) → d ≢ 5 → indexes d at ≡ true → indexes 5 at ≡ false
 off-pointer d (Index a v) ne e = let z = equal (register_of X86_64 a) d e in grind (arith, ne, z)
 off-pointer d (Base a) ne e = refl
-off-pointer d (At v) ne e = refl
-off-pointer d (Sum a b) ne e = refl
+off-pointer d o ne e = refl
 
 pub load-spare : (d : ℕ) (at : Address) → d < 16 → d ≢ 5 → IsLoadSpare (load_spare d at) d at
 load-spare d at few ne = by (indexes d at) refl

@@ -46,15 +46,11 @@ pub store-made : (t : StoreType) (s : Scene) (base : ℕ) (disp : ℤ) (from a v
     → mapped s.bytes a (store_width t) ≡ true → s.registers from ≡ v
     → made (instr.Store (store_row t) base disp from) s ≡ Some (scene s.registers s.flags (stored s.bytes a (store_width t) v))
 store-made store_type.Char s base disp from a v at there holds = rw (at, there, holds) refl
-store-made store_type.Short s base disp from a v at there holds = rw (at, there, holds) refl
-store-made store_type.Int s base disp from a v at there holds = rw (at, there, holds) refl
-store-made store_type.Long s base disp from a v at there holds = rw (at, there, holds) refl
+store-made t s base disp from a v at there holds = rw (at, there, holds) refl
 
 pub store-wide : (t : StoreType) → x86.store_width (store_row t) ≡ store_width t
 store-wide store_type.Char = refl
-store-wide store_type.Short = refl
-store-wide store_type.Int = refl
-store-wide store_type.Long = refl
+store-wide t = refl
 
 -- ---- the slots
 -- a store off the slots keeps them

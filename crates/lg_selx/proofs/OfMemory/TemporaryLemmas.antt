@@ -23,7 +23,7 @@ use Rattle.lg_op.specs.declared.operand.Reg.{Reg}
 use Rattle.lg_op.specs.declared.operand.Reg.TheVariants.{R0, R1, R2, V0, V1, V2, Fp}
 use Rattle.lg_carry.proofs.TemporariesApartLemmas.{none-stood-for, tried-spare}
 use Rattle.lg_carry.specs.Spills.{spilled}
-use Rattle.lg_carry.specs.Memory.Accesses.{Address, Base, At, Sum, Index, address_of}
+use Rattle.lg_carry.specs.Memory.Accesses.{Address, Base, Index, address_of}
 use Rattle.lg_carry.specs.Memory.Operands.{named, is_label}
 use Rattle.lg_carry.proofs.OfMemory.FormLemmas.{starts-read, starts-number}
 use Rattle.lg_carry.specs.Nodes.Straight.{is_taken}
@@ -184,8 +184,7 @@ pub record IsSpare (u : ℕ) (at : Address) (from : ℕ) (choices : List Choice)
 free-of : (u : ℕ) (at : Address) → ((r : Reg) (v : ℕ) → at ≡ Index r v → register_of X86_64 r ≢ u) → indexes u at ≡ false
 free-of u (Index r v) h = let ne = h r v refl in grind (arith, ne)
 free-of u (Base a) h = refl
-free-of u (At v) h = refl
-free-of u (Sum a b) h = refl
+free-of u o h = refl
 
 -- whether its address is computed
 abbrev pub is_computed : Addressing → Bool
@@ -220,9 +219,7 @@ pub record AreFewNeeds (needs : List Need) : Type 0 where
 
 pub needs-few : (at : Addressing) → AreFewNeeds (store_needs at)
 needs-few addressing.Register = record { few = omega arith; unnamed = λ x. refl }
-needs-few addressing.Immediate = record { few = omega arith; unnamed = λ x. refl }
-needs-few addressing.RegisterRegister = record { few = omega arith; unnamed = λ x. refl }
-needs-few addressing.RegisterImmediate = record { few = omega arith; unnamed = λ x. refl }
+needs-few o = record { few = omega arith; unnamed = λ x. refl }
 
 -- a register of the conventions, which is free or saved in the first slot
 abbrev pub IsOne : Choice → Type 0
@@ -251,8 +248,7 @@ pub choices-are : (at : Addressing) (n : Node) (live : Reg → Bool) (staged : L
     → AreFor (around X86_64 n live staged) (store_needs at) [] (store_needs at) choices → AreOne choices
 choices-are addressing.Register n live staged choices h = are-none n live staged choices h
 choices-are addressing.Immediate n live staged choices h = are-any n live staged choices h
-choices-are addressing.RegisterRegister n live staged choices h = are-any n live staged choices h
-choices-are addressing.RegisterImmediate n live staged choices h = are-any n live staged choices h
+choices-are o n live staged choices h = are-any n live staged choices h
 
 pub one-fits : (choices : List Choice) → AreOne choices → AreStoreChoices choices
 one-fits [] h = record { few = omega arith; slots = tt }

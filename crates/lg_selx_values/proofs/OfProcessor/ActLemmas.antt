@@ -19,7 +19,7 @@ use Rattle.lg_x86.specs.declared.instruction.LoadOp.TheVariants.{Ld64, Ld32u, Ld
 use Rattle.lg_x86.specs.declared.instruction.RmRegOp.{RmRegOp}
 use Rattle.lg_x86.specs.declared.instruction.StackOp.TheVariants.{Push, Pop}
 use Rattle.lg_x86.specs.declared.instruction.UnaryOp.{UnaryOp}
-use Rattle.lg_x86.specs.declared.instruction.UnaryOp.TheVariants.{Not, Neg, Mul, Imul1, Div, Idiv, Shl, Shr, Sar}
+use Rattle.lg_x86.specs.declared.instruction.UnaryOp.TheVariants.{Not, Neg, Mul, Imul1, Div, Idiv, Shl}
 use Rattle.lg_cpu.specs.HostSteps.{put}
 use Rattle.lg_cpu.specs.States.{CpuState}
 use Rattle.lg_cpu.specs.Steps.{Effect}
@@ -102,8 +102,7 @@ grows-one Imul1 rm s = λ a e. e
 grows-one Div rm s = grows-quotient s (quotient_wide (s.registers 2) (s.registers 0) (s.registers rm))
 grows-one Idiv rm s = grows-quotient s (quotient_wide_signed (s.registers 2) (s.registers 0) (s.registers rm))
 grows-one Shl rm s = λ a e. e
-grows-one Shr rm s = λ a e. e
-grows-one Sar rm s = λ a e. e
+grows-one o rm s = λ a e. e
 
 grows-pop : (reg : ℕ) (s : Scene) (o : Option ℕ) → IfGrows s (pops reg s o)
 grows-pop reg s None = tt
@@ -135,11 +134,7 @@ grows-made (Set cond rm) s = grows-byte rm s (condition_holds cond s.flags)
 grows-made (Bare Cqo) s = λ a e. e
 grows-made (Bare Nop) s = λ a e. e
 grows-made (Bare Ret) s = tt
-grows-made (JumpIfShort cond distance) s = tt
-grows-made (JumpIfNear cond distance) s = tt
-grows-made (JumpShort distance) s = tt
-grows-made (JumpNear op distance) s = tt
-grows-made (JumpReg op rm) s = tt
+grows-made o s = tt
 
 -- ---- nothing is written, the heap mark stays, and no byte is taken away
 pub record Steady (q : CpuState) (e : Effect CpuState) : Type 0 where

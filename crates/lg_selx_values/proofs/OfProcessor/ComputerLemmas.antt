@@ -10,7 +10,7 @@ use Rattle.lg_x86.specs.declared.instruction.LoadOp.TheVariants.{Lea}
 use Rattle.lg_x86.specs.declared.instruction.RmRegOp.{RmRegOp}
 use Rattle.lg_x86.specs.declared.instruction.RmRegOp.TheVariants as alu
 use Rattle.lg_x86.specs.declared.instruction.UnaryOp.{UnaryOp}
-use Rattle.lg_x86.specs.declared.instruction.UnaryOp.TheVariants.{Not, Neg, Mul, Imul1, Div, Idiv, Shl, Shr, Sar}
+use Rattle.lg_x86.specs.declared.instruction.UnaryOp.TheVariants.{Not, Neg, Mul, Imul1, Div, Idiv, Shl}
 use Rattle.lg_cpu.specs.Steps.{after, status_of}
 use Rattle.lg_cpu.specs.X86Operators.{alu_of}
 use Rattle.lg_cpu.specs.X86Step.{Scene, scene_of, made, fault_of, goes, goes_with, act, combined}
@@ -37,11 +37,7 @@ combined-computes alu.Or rm b s h = refl
 combined-computes alu.Adc rm b s h = cc
 combined-computes alu.Sbb rm b s h = cc
 combined-computes alu.And rm b s h = refl
-combined-computes alu.Sub rm b s h = refl
-combined-computes alu.Xor rm b s h = refl
-combined-computes alu.Cmp rm b s h = refl
-combined-computes alu.Test rm b s h = refl
-combined-computes alu.Mov rm b s h = refl
+combined-computes o rm b s h = refl
 
 unary-computes : (op : UnaryOp) (rm : ℕ) (s : Scene) → divides_not op ≡ true → made (Unary op rm) s ≡ Some (with_held (held_by (Unary op rm) (holding s)) s)
 unary-computes Not rm s h = refl
@@ -51,8 +47,7 @@ unary-computes Imul1 rm s h = refl
 unary-computes Div rm s h = cc
 unary-computes Idiv rm s h = cc
 unary-computes Shl rm s h = refl
-unary-computes Shr rm s h = refl
-unary-computes Sar rm s h = refl
+unary-computes o rm s h = refl
 
 -- one that computes makes a scene of any, with these registers and flags and the same memory
 pub computes-made : (i : Instr) (s : Scene) → computes i ≡ true → made i s ≡ Some (with_held (held_by i (holding s)) s)

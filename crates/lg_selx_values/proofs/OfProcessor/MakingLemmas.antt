@@ -1,10 +1,10 @@
 -- Instructions after each of which the next one follows: what lists of them do.
 use Rattle.lg_cpu.specs.X86Operators.{bit, carry_for, alu_value, alu_flags, alu_of, is_kept_by, condition_holds}
 use Rattle.lg_x86.specs.declared.instruction.RmRegOp.{RmRegOp}
-use Rattle.lg_x86.specs.declared.instruction.UnaryOp.TheVariants.{Not, Neg, Mul, Imul1, Div, Idiv, Shl, Shr, Sar}
+use Rattle.lg_x86.specs.declared.instruction.UnaryOp.TheVariants.{Not, Neg, Mul, Imul1, Div, Idiv, Shl}
 use Rattle.lg_x86.specs.declared.instruction.UnaryOp.{UnaryOp}
 use Rattle.lg_x86.specs.declared.instruction.StackOp.TheVariants.{Push, Pop}
-use Rattle.lg_x86.specs.declared.instruction.StoreOp.TheVariants.{St64, St32, St16, St8}
+use Rattle.lg_x86.specs.declared.instruction.StoreOp.TheVariants.{St64}
 use Rattle.lg_x86.specs.declared.instruction.StoreOp.{StoreOp}
 use Rattle.lg_base.specs.declared.flags.Flags.{Flags}
 use Rattle.lg_base.specs.Wide.{quotient_wide, quotient_wide_signed}
@@ -15,14 +15,14 @@ use Rattle.lg_x86.specs.declared.instruction.JumpRegOp.TheVariants.{Jmpr, Callr}
 use Rattle.lg_x86.specs.declared.instruction.JumpNearOp.TheVariants.{Jmp32, Call32}
 use Rattle.lg_x86.specs.declared.instruction.LoadOp.TheVariants.{Lea, Ld64, Ld32u, Ld32s, Ld8u, Ld16u, Ld8s, Ld16s}
 use Rattle.lg_x86.specs.declared.instruction.LoadOp.{LoadOp}
-use Rattle.lg_sel.specs.X86Touched.{touched}
+use Rattle.lg_selx_values.specs.Processor.X86Touched.{touched}
 use Rattle.lg_carry.proofs.BlockLemmas.{nothing-off}
 use Rattle.lg_base.specs.declared.target.Target.TheVariants.{X86_64}
 use Rattle.lg_carry.specs.Processors.{IsOff, is_below}
 use Rattle.std.proofs.lemmas.Bool.{and_parts}
 use Rattle.std.specs.List.{list_all}
 use Rattle.std.specs.Prelude.{ℤ, ◌&&◌, if◌then◌else◌, IfSome}
-use Rattle.std.proofs.Common.{◌≡◌, ℕ, ◌+◌, true, List, [], ◌∷◌, ◌++◌, length, length-append, Option, Some, None, refl, ap, ◌∙◌, arith, append-nil, Bool, sym, subst, ◌≤◌, ◌<◌, zero, suc, false}
+use Rattle.std.proofs.Common.{◌≡◌, ℕ, ◌+◌, true, List, [], ◌∷◌, ◌++◌, length, length-append, Option, Some, None, refl, ap, ◌∙◌, arith, append-nil, Bool, sym, subst, ◌<◌, zero, suc, false}
 use Rattle.std.specs.Option.{option_and_then}
 use Rattle.lg_base.specs.Runs.{Running}
 use Rattle.lg_base.specs.Words.{add_words}
@@ -156,9 +156,7 @@ module _ (w : ℕ → ℕ) (f : Flags) where
 
   store-some : (op : StoreOp) → 0 < store_width op
   store-some St64 = omega arith
-  store-some St32 = omega arith
-  store-some St16 = omega arith
-  store-some St8 = omega arith
+  store-some o = omega arith
 
   still-made : (i : Instr) (t : Scene) → made i bare ≡ Some t → is_still i ≡ true
   still-made (RmReg op rm reg) t e = refl
@@ -224,8 +222,7 @@ keeps-one Imul1 rm s = refl
 keeps-one Div rm s = keeps-quotient s (quotient_wide (s.registers 2) (s.registers 0) (s.registers rm))
 keeps-one Idiv rm s = keeps-quotient s (quotient_wide_signed (s.registers 2) (s.registers 0) (s.registers rm))
 keeps-one Shl rm s = refl
-keeps-one Shr rm s = refl
-keeps-one Sar rm s = refl
+keeps-one o rm s = refl
 
 keeps-byte : (rm : ℕ) (s : Scene) (o : Option Bool) → IfKeeps s (sets_byte rm s o)
 keeps-byte rm s None = tt
@@ -250,10 +247,7 @@ keeps-made (Bare Cqo) s h = refl
 keeps-made (Bare Nop) s h = refl
 keeps-made (Bare Ret) s h = cc
 keeps-made (JumpIfShort cond distance) s h = tt
-keeps-made (JumpIfNear cond distance) s h = tt
-keeps-made (JumpShort distance) s h = tt
-keeps-made (JumpNear op distance) s h = tt
-keeps-made (JumpReg op rm) s h = tt
+keeps-made o s h = tt
 
 if-some : (o : Option Scene) (s t : Scene) → IfKeeps s o → o ≡ Some t → t.bytes ≡ s.bytes
 if-some None s t h e = cc

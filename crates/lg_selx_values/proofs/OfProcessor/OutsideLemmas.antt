@@ -22,12 +22,12 @@ use Rattle.lg_x86.specs.declared.instruction.LoadOp.TheVariants.{Ld64, Ld32u, Ld
 use Rattle.lg_x86.specs.declared.instruction.RmRegOp.{RmRegOp}
 use Rattle.lg_x86.specs.declared.instruction.StackOp.TheVariants.{Push, Pop}
 use Rattle.lg_x86.specs.declared.instruction.UnaryOp.{UnaryOp}
-use Rattle.lg_x86.specs.declared.instruction.UnaryOp.TheVariants.{Not, Neg, Mul, Imul1, Div, Idiv, Shl, Shr, Sar}
+use Rattle.lg_x86.specs.declared.instruction.UnaryOp.TheVariants.{Not, Neg, Mul, Imul1, Div, Idiv, Shl}
 use Rattle.lg_cpu.specs.HostSteps.{put}
 use Rattle.lg_cpu.specs.States.{CpuState}
 use Rattle.lg_cpu.specs.Steps.{Progress, Goes, EndedWith, Faulted, Effect, after, on_going}
 use Rattle.lg_cpu.specs.X86Operators.{no_flags, product_flags, needs_high, needs_high_signed, bit, carry_for, alu_value, alu_flags, alu_of, is_kept_by, condition_holds}
-use Rattle.lg_cpu.specs.X86Step.{Scene, scene_of, with_flags, with_register, with_carry, sets, sets_loaded, loads, store_width, stores, sets_wide, sets_quotient, one_register, pops, pushes, sets_byte, made}
+use Rattle.lg_cpu.specs.X86Step.{Scene, scene_of, with_flags, with_register, with_carry, sets_loaded, loads, store_width, stores, sets_wide, sets_quotient, one_register, pops, pushes, sets_byte, made}
 use Rattle.lg_cpu.specs.X86Step.{fault_of, goes_with, goes_where, returns, does, act}
 use Rattle.lg_carry.specs.Outside.{is_outside}
 use Rattle.lg_selx_values.specs.Processor.Destinations.{WritesWithin, InstructionsStay}
@@ -48,9 +48,6 @@ module _ (moves : Bool) (r : ℕ) (out : is_outside X86_64 moves r ≡ true) whe
 
   abbrev Keeps : Scene → Option Scene → Type 0
   Keeps s o = IfSome o (λ t. t.registers r ≡ s.registers r)
-
-  keep-set : (s : Scene) (x v : ℕ) (flags : Flags) → is_outside X86_64 moves x ≡ false → Keeps s (sets s x v flags)
-  keep-set s x v flags h = puts s.registers x v h
 
   keep-either : (b : Bool) (s t u : Scene) → t.registers r ≡ s.registers r → u.registers r ≡ s.registers r → (if b then t else u).registers r ≡ s.registers r
   keep-either true s t u h k = h
@@ -98,8 +95,7 @@ module _ (moves : Bool) (r : ℕ) (out : is_outside X86_64 moves r ≡ true) whe
   keep-one Div rm s h = keep-quotient s (quotient_wide (s.registers 2) (s.registers 0) (s.registers rm))
   keep-one Idiv rm s h = keep-quotient s (quotient_wide_signed (s.registers 2) (s.registers 0) (s.registers rm))
   keep-one Shl rm s h = puts s.registers rm _ h
-  keep-one Shr rm s h = puts s.registers rm _ h
-  keep-one Sar rm s h = puts s.registers rm _ h
+  keep-one o rm s h = puts s.registers rm _ h
 
   keep-pop : (reg : ℕ) (s : Scene) (o : Option ℕ) → is_outside X86_64 moves reg ≡ false → is_outside X86_64 moves 4 ≡ false → Keeps s (pops reg s o)
   keep-pop reg s None h k = tt
@@ -131,11 +127,7 @@ module _ (moves : Bool) (r : ℕ) (out : is_outside X86_64 moves r ≡ true) whe
   keep-made (Bare Cqo) s h = puts s.registers 2 _ refl
   keep-made (Bare Nop) s h = refl
   keep-made (Bare Ret) s h = tt
-  keep-made (JumpIfShort cond distance) s h = tt
-  keep-made (JumpIfNear cond distance) s h = tt
-  keep-made (JumpShort distance) s h = tt
-  keep-made (JumpNear op distance) s h = tt
-  keep-made (JumpReg op rm) s h = tt
+  keep-made o s h = tt
 
   -- ---- effects
   abbrev Stays : CpuState → Effect CpuState → Type 0

@@ -1,5 +1,5 @@
 -- The instructions are rows of a processor.
-use Rattle.lg_sel.specs.X86Touched.{touched_by}
+use Rattle.lg_selx_values.specs.Processor.X86Touched.{touched_by}
 use Rattle.lg_x86.proofs.CheckedLemmas.{checked_again}
 use Rattle.std.proofs.Common.{◌≡◌, ℕ, ◌+◌, ◌-◌, ◌<◌, ◌≤◌, ◌^◌, true, List, ◌++◌, length, drop, Option, Some, None, refl, sym, ap, ◌∙◌, arith, subst, append-nil, length-append}
 use Rattle.std.proofs.lemmas.List.{length-drop}

@@ -1,6 +1,6 @@
 -- A step of x86-64 leaves alone what it does not touch.
-use Rattle.std.proofs.Common.{◌≡◌, ℕ, ◌+◌, ◌-◌, ◌%◌, ◌^◌, ◌<◌, ◌≤◌, Bool, true, false, List, Option, Some, None, refl, sym, ap, ◌∙◌, subst, drop}
-use Rattle.std.specs.Prelude.{◌==◌, if◌then◌else◌, ⊤}
+use Rattle.std.proofs.Common.{◌≡◌, ℕ, ◌+◌, ◌-◌, ◌^◌, ◌<◌, ◌≤◌, Bool, true, false, List, Option, Some, None, refl, sym, ap, ◌∙◌, subst, drop}
+use Rattle.std.specs.Prelude.{if◌then◌else◌, ⊤}
 use mathlib.Core.Path.{fun_ext}
 use Rattle.lg_base.specs.Fields.{word_of}
 use Rattle.lg_base.specs.Flags.{carry_of}
@@ -24,12 +24,12 @@ use Rattle.lg_x86.specs.declared.instruction.LoadOp.TheVariants.{Ld64, Ld32u, Ld
 use Rattle.lg_x86.specs.declared.instruction.RmRegOp.{RmRegOp}
 use Rattle.lg_x86.specs.declared.instruction.StackOp.TheVariants.{Push, Pop}
 use Rattle.lg_x86.specs.declared.instruction.UnaryOp.{UnaryOp}
-use Rattle.lg_x86.specs.declared.instruction.UnaryOp.TheVariants.{Not, Neg, Mul, Imul1, Div, Idiv, Shl, Shr, Sar}
+use Rattle.lg_x86.specs.declared.instruction.UnaryOp.TheVariants.{Not, Neg, Mul, Imul1, Div, Idiv, Shl}
 use Rattle.lg_cpu.proofs.X86SoundLemmas.{x86-stays-sound}
 use Rattle.lg_cpu.specs.Fetches.{in_code}
 use Rattle.lg_cpu.specs.HostSteps.{put}
 use Rattle.lg_cpu.specs.Laws.{AreBytes}
-use Rattle.lg_cpu.specs.States.{CpuState, arrives, goes_on}
+use Rattle.lg_cpu.specs.States.{CpuState, arrives}
 use Rattle.lg_cpu.specs.Steps.{Effect, Run, faults, stepped}
 use Rattle.lg_cpu.specs.X86Operators.{bit, carry_for, alu_value, alu_flags, alu_of, is_kept_by, condition_holds}
 use Rattle.lg_cpu.specs.X86Step.{Scene, scene_of, with_flags, with_register, with_carry, sets_loaded, loads, load_width, store_width, stores, sets_quotient, one_register, pops, pushes, sets_byte, made}
@@ -38,7 +38,7 @@ use Rattle.lg_carry.specs.Disturbed.{AreSame, hidden_in}
 use Rattle.lg_carry.specs.Processors.{IsSeen, IsOff}
 use Rattle.lg_carry.proofs.TouchLemmas.{Alike, choose, arriving-alike, faulting-alike, mapped-alike, loaded-alike, stored-alike, stored-stays, Grows, grows-if, seen-stays, same-stepped, hidden-stays}
 use Rattle.lg_selx_values.specs.Processor.X86Rows.{x86_processor, x86_seen}
-use Rattle.lg_sel.specs.X86Touched.{touched, touched_by, touched_at}
+use Rattle.lg_selx_values.specs.Processor.X86Touched.{touched, touched_by, touched_at}
 use Rattle.lg_selx_values.specs.Processor.Touches.{StepsLeave, StepsOverlook, StepsAreAlike, StatesArePatched}
 use Rattle.lg_selx_values.proofs.OfProcessor.ActLemmas.{steady-does}
 
@@ -136,8 +136,7 @@ module _ (hidden : ℕ → Bool) (q : CpuState) (m : ℕ → Option ℕ) (same :
   one Div rm = quotient (quotient_wide (q.registers 2) (q.registers 0) (q.registers rm))
   one Idiv rm = quotient (quotient_wide_signed (q.registers 2) (q.registers 0) (q.registers rm))
   one Shl rm = plain _ _
-  one Shr rm = plain _ _
-  one Sar rm = plain _ _
+  one o rm = plain _ _
 
   pop : (reg : ℕ) (o : Option ℕ) → Both (pops reg here o) (pops reg there o)
   pop reg None = tt
@@ -171,11 +170,7 @@ module _ (hidden : ℕ → Bool) (q : CpuState) (m : ℕ → Option ℕ) (same :
   makes (Bare Cqo) off = plain _ _
   makes (Bare Nop) off = plain _ _
   makes (Bare Ret) off = tt
-  makes (JumpIfShort cond distance) off = tt
-  makes (JumpIfNear cond distance) off = tt
-  makes (JumpShort distance) off = tt
-  makes (JumpNear op distance) off = tt
-  makes (JumpReg op rm) off = tt
+  makes o off = tt
 
   -- ---- effects
   faulting : (kind : FaultKind) → Same (faults q kind) (faults t kind)

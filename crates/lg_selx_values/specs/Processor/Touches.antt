@@ -7,7 +7,7 @@ use Rattle.lg_cpu.specs.Steps.{Run}
 use Rattle.lg_carry.specs.Disturbed.{hidden_in, Overlooks, IsAlike, LeavesAlone, Patches}
 use Rattle.lg_carry.specs.Processors.{IsOff}
 use Rattle.lg_selx_values.specs.Processor.X86Rows.{x86_processor}
-use Rattle.lg_sel.specs.X86Touched.{touched_at}
+use Rattle.lg_selx_values.specs.Processor.X86Touched.{touched_at}
 
 -- a step leaves alone all that it does not touch
 abbrev pub StepsLeave : Type 0

@@ -15,7 +15,7 @@ use Rattle.lg_cpu.specs.X86Step.{act, effect}
 use Rattle.lg_carry.specs.Processors.{Seen, Processor, IsOff, is_below}
 use Rattle.lg_carry.specs.Rows.{Rows, AreRows}
 use Rattle.lg_carry.specs.Spills.{AreSpills}
-use Rattle.lg_sel.specs.X86Touched.{touched, touched_at}
+use Rattle.lg_selx_values.specs.Processor.X86Touched.{touched, touched_at}
 
 abbrev pub x86_seen : Run CpuState → Seen
 x86_seen r = record { pc = r.state.pc; registers = r.state.registers; bytes = r.state.bytes; mark = r.state.mark; flags = r.state.flags }

@@ -1,8 +1,6 @@
 // What holds of the instructions of x86-64, for the code of nodes. The functions do nothing: their contracts are the laws.
 
 ghost use Rattle.lg_selx_values.specs.Processor.Destinations.{InstructionsStay};
-ghost use Rattle.lg_selx_values.specs.Processor.MakingNodes.{MakingNodesCompute};
-ghost use Rattle.lg_selx_values.specs.Processor.Makings.{MakingsRun};
 ghost use Rattle.lg_selx_values.specs.Processor.Numbers.{NumbersAreLoaded};
 ghost use Rattle.lg_selx_values.specs.Processor.Touches.{StepsLeave, StepsOverlook, StepsAreAlike, StatesArePatched};
 ghost use Rattle.lg_selx_values.specs.Processor.X86Computers.{InstructionsAreIsa, InstructionsCompute};
@@ -33,19 +31,9 @@ pub fn instructions_compute()
     ensures { InstructionsCompute }
 {}
 
-/// Instructions that make a scene go through one after the other, and leave it.
-pub fn makings_run()
-    ensures { MakingsRun }
-{}
-
 /// One instruction loads any number into a register, and changes no other and no flag.
 pub fn numbers_are_loaded()
     ensures { NumbersAreLoaded }
-{}
-
-/// A node is computed by code that makes the registers and flags of the portable step, also where it reads the memory or makes FP again.
-pub fn making_nodes_compute()
-    ensures { MakingNodesCompute }
 {}
 
 /// A step that is no host function's goes in one way whatever is where it touches nothing, and leaves that as it was.

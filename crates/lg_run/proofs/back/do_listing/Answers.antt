@@ -11,4 +11,4 @@ returns-in-Err-clause-says g c = λ held under.
     stopped_says (shown c.args.command.now) held done.code done.steps (on_sink g.O.Sink.taken g.O.Sink.faults c.args.out.now c.args.out.now) done.answer c.in-Err.stop
     record { refused = λ r e. c.without_code.ensures.0 ∙ c.stopped.ensures.refused r e; memory = λ e. c.without_code.ensures.0 ∙ c.stopped.ensures.memory e }
     record { none = c.without_code.ensures.1; still = record { steps_none = c.without_code.ensures.2; out_same = refl } }
-    (λ r e. back_refused (shown c.args.command.now) held c.args.read.now r c.in-Err.stop c.requires.mode c.requires.fits under c.in-Err.ensures.reads c.requires.short e)
+    (λ r e. back_refused (shown c.args.command.now) held c.args.read.now r c.in-Err.stop c.requires.listing c.requires.fits under c.in-Err.ensures.reads c.requires.short e)

@@ -12,7 +12,7 @@ use Rattle.lg_run.specs.Means.{meaning_from}
 use Rattle.lg_run.specs.Runs.{MeanSays}
 use Rattle.lg_run.specs.Says.{code_meaning}
 use Rattle.lg_run.proofs.ExplainLemmas.{explain_tells}
-use Rattle.lg_run.proofs.WorkLemmas.{explain_started, mean_started, shape_is}
+use Rattle.lg_run.proofs.WorkLemmas.{mean_started, shape_is}
 use Rattle.lg_run.proofs.explain.run_explain.Goals as goal
 
 pub returns-in-Ok-clause-says : goal.returns-in-Ok-clause-says
@@ -28,8 +28,8 @@ returns-in-Ok-clause-says g c =
     let labels : c.in-Ok.machine.labels.addresses ≡ code.labels = made.addresses ∙ c.labels-2.ensures in
     let same : meaning_from unit.nodes shape c.in-Ok.machine ≡ code_meaning command code unit =
     λ i n. means.mean_from unit.nodes (shape_is unit.nodes shape c.requires.checked i) (labels i) (start i) n in
-    explain_started command code unit out ran.steps ran.answer (mean_started command code unit out ran.steps ran.answer
-    (subst (λ m. MeanSays unit.nodes m command.steps ran.steps out ran.answer) same c.run_explained.ensures.says))
+    mean_started command code unit out ran.steps ran.answer
+    (subst (λ m. MeanSays unit.nodes m command.steps ran.steps out ran.answer) same c.run_explained.ensures.says)
 
 pub returns-in-Ok-clause-told : goal.returns-in-Ok-clause-told
 returns-in-Ok-clause-told g c =

@@ -1,5 +1,4 @@
-use Rattle.std.proofs.Common.{◌≡◌, ap, ◌∙◌, arith}
-use Rattle.lg_run.specs.Made.{functions}
+use Rattle.std.proofs.Common.{arith}
 use Rattle.lg_run.proofs.RowLemmas.{function_added, functions_whole}
 use Rattle.lg_run.proofs.generator.push_functions.Goals as goal
 

@@ -1,4 +1,4 @@
-use Rattle.std.proofs.Common.{◌≡◌, ap, ◌∙◌, sym, arith}
+use Rattle.std.proofs.Common.{◌∙◌, sym, arith}
 use Rattle.lg_run.proofs.RowLemmas.{piece_added, pieces_whole, state_at_end, state_after}
 use Rattle.lg_run.proofs.generator.push_pieces.Goals as goal
 

@@ -1,7 +1,6 @@
-use Rattle.std.proofs.Common.{List, sym, subst}
+use Rattle.std.proofs.Common.{subst}
 use Rattle.std.specs.Prelude.{IsTrue}
 use Rattle.std.specs.List.{All}
-use Rattle.lg_list.specs.Back.{IsListable}
 use Rattle.lg_run.proofs.ListableLemmas.{is-listable}
 use Rattle.lg_run.proofs.listing_laws.code_listings_read_back.Goals as goal
 use Rattle.lg_node.specs.Nodes.{LabelledNodes, is_word}

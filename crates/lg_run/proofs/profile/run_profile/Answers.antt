@@ -1,6 +1,7 @@
 use Rattle.std.proofs.Common.{◌≡◌, ℕ, ◌∙◌, ap, refl, sym, subst}
-use Rattle.lg_base.specs.Arguments.{args_of, texts_of}
+use Rattle.lg_base.specs.Arguments.{args_of}
 use Rattle.lg_command.specs.Commands.{shown as shown_command}
+use Rattle.lg_command.specs.Plans.{report_of}
 use Rattle.lg_cpu.specs.Machines.{shown, shown_at_start}
 use Rattle.lg_cpu.specs.Series.{run_from}
 use Rattle.lg_cpu.specs.States.{CpuState}
@@ -13,8 +14,8 @@ use Rattle.lg_run.specs.ProfileStarts.{IsStartOf}
 use Rattle.lg_run.specs.Profiles.{TableFor, is_run_end, table_of}
 use Rattle.lg_run.specs.Runs.{RunSays}
 use Rattle.lg_run.specs.Says.{code_meaning, code_run, trash_word}
-use Rattle.lg_run.proofs.ProfileLemmas.{final_below, profile_started, table_lines_below, told, told_in_profile}
-use Rattle.lg_run.proofs.WorkLemmas.{shape_is}
+use Rattle.lg_run.proofs.ProfileLemmas.{final_below, table_lines_below, told, told_in_profile}
+use Rattle.lg_run.proofs.WorkLemmas.{run_started, shape_is}
 use Rattle.lg_run.proofs.profile.run_profile.Goals as goal
 
 pub run_start-requires-clause-lines : goal.run_start-requires-clause-lines
@@ -35,7 +36,7 @@ returns-in-Ok-clause-says g c =
     let runs : run_from (shown c.in-Ok.start.cpu) ≡ code_run command code unit = ap run_from started in
     let out = on_sink g.O.Sink.taken g.O.Sink.faults c.args.out.now c.run_start.new.out in
     let ran = c.run_start.result.ran in
-    profile_started command code unit out ran.steps ran.answer (subst (λ (f : ℕ → Run CpuState). RunSays f command.steps ran.steps out ran.answer) runs c.run_start.ensures.says)
+    run_started command code unit out ran.steps ran.answer (subst (λ (f : ℕ → Run CpuState). RunSays f command.steps ran.steps out ran.answer) runs c.run_start.ensures.says)
 
 pub returns-in-Ok-clause-told : goal.returns-in-Ok-clause-told
 returns-in-Ok-clause-told g c =
@@ -51,7 +52,7 @@ returns-in-Ok-clause-told g c =
     λ i n. means.mean_from unit.nodes (shape_is unit.nodes shape c.requires.checked i) (e.addresses i) (e.state i) n in
     let ran = c.run_start.result.ran in
     let lines = table_of c.run_start.result.tally in (
-      subst (λ b. TableFor b command code unit ran.steps lines) (sym (told_in_profile command.mode ran.answer c.requires.profile))
+      subst (λ b. TableFor b command code unit ran.steps lines) (sym (told_in_profile (report_of command.mode) ran.answer c.requires.profile))
           (told command code unit shape s command.steps e c.target.ensures.code.ordered.long c.tables_have_the_lines.ensures runs meant refl (is_run_end ran.answer) ran.steps c.run_start.result.tally c.run_start.ensures.told),
       subst (λ m. StuckFor (tells_stuck m ran.answer) command code unit ran.steps c.run_start.result.stuck) (sym c.requires.profile) c.run_start.ensures.stuck,
     )

@@ -1,5 +1,6 @@
 use Rattle.std.proofs.Common.{Some, inr}
 use Rattle.lg_command.specs.Commands.{shown}
+use Rattle.lg_command.specs.Plans.{report_of}
 use Rattle.lg_run.specs.Explanations.{explained_of}
 use Rattle.lg_run.specs.Profiles.{table_of}
 use Rattle.lg_run.proofs.top.answer.Goals as goal
@@ -11,7 +12,7 @@ returns-in-Ok-clause-says g c = record {
   says = (c.in-Ok.ensures.command, c.work-worked.ensures.says);
   table = table_of c.work-worked.result.tally;
   told = c.work-worked.ensures.told.0;
-  explained = explained_of c.in-Ok.command.mode c.in-Ok.command.file.now c.work-worked.result;
+  explained = explained_of (report_of c.in-Ok.command.mode) c.in-Ok.command.file.now c.work-worked.result;
   explains = c.work-worked.ensures.explains;
   report = c.report-answer.ensures;
 }

@@ -1,5 +1,6 @@
 use Rattle.std.proofs.Common.{◌≡◌, refl, sym, ap, ◌∙◌, subst}
 use Rattle.lg_command.specs.Commands.{shown}
+use Rattle.lg_command.specs.Plans.{report_of}
 use Rattle.lg_io.specs.SinkChanges.{on_sink}
 use Rattle.lg_run.specs.Changes.{TellsWrites}
 use Rattle.lg_run.specs.Explanations.{word_explained}
@@ -26,7 +27,8 @@ returns-in-Ok-clause-explains g c =
     let command = shown c.args.command.now in
     let out = on_sink g.O.Sink.taken g.O.Sink.faults c.args.out.now c.do_read-worked.new.out in
     kept_explains command c.args.read out c.do_read-worked.result c.keep.result c.keep.ensures.done c.keep.ensures.stuck c.keep.ensures.read
-    (c.keep.ensures.word ∙ subst (λ r. c.in-Ok.word ≡ word_explained command.mode r c.do_read-worked.result.done.answer) c.deref-2.ensures.value c.in-Ok.ensures.word)
+    (c.keep.ensures.word ∙ subst (λ r. c.in-Ok.word ≡ word_explained (report_of command.mode) r c.do_read-worked.result.done.answer) c.deref-2.ensures.value
+    (c.in-Ok.ensures.word ∙ ap (λ p. word_explained p.report c.deref-2.result.now c.do_read-worked.result.done.answer) c.plan.ensures))
     (subst (λ r. ReadDone command r out c.do_read-worked.result.done) c.deref.ensures.value c.do_read-worked.ensures.says)
     (subst (λ r. ReadTold command r c.do_read-worked.result) c.deref.ensures.value c.do_read-worked.ensures.told)
 

@@ -1,13 +1,12 @@
 use Rattle.std.proofs.Common.{◌≤◌, inr, length, refl, sym, ap, ◌∙◌, subst, Err}
 use Rattle.lg_base.specs.Arguments.{most_args}
 use Rattle.lg_command.specs.Commands.{shown}
+use Rattle.lg_command.specs.Plans.{report_of, source_of}
 use Rattle.lg_cpu.specs.Laws.{AreBytes}
-use Rattle.lg_io.specs.NamedTexts.{NamedTexts}
 use Rattle.lg_io.specs.SinkChanges.{on_sink}
-use Rattle.std.specs.Prelude.{List, ℕ, Option}
 use Rattle.lg_run.specs.Explanations.{tells_stuck}
 use Rattle.lg_run.specs.Profiles.{table_of, tells_table}
-use Rattle.lg_run.specs.Refused.{IsRefusedAs, IsTextIn, IsUnitOf}
+use Rattle.lg_run.specs.Refused.{IsRefusedAs}
 use Rattle.lg_run.specs.Says.{IsCodeOf}
 use Rattle.lg_run.specs.Work.{DoneSays}
 use Rattle.lg_run.proofs.ExplainLemmas.{stopped_tells, stuck_tells}
@@ -56,8 +55,8 @@ returns-in-Ok-clause-told g c = λ text is held under.
       size = ran.size;
       agrees = ran.agrees;
     } in (
-      run_tells command held c.in-Ok.code made (tells_table command.mode p.ran.answer) p.ran.steps (table_of p.tally) c.run_mode-profiled.ensures.told.0,
-      stuck_tells command held c.in-Ok.code made (tells_stuck command.mode p.ran.answer) p.ran.steps p.stuck c.run_mode-profiled.ensures.told.1,
+      run_tells command held c.in-Ok.code made (tells_table (report_of command.mode) p.ran.answer) p.ran.steps (table_of p.tally) c.run_mode-profiled.ensures.told.0,
+      stuck_tells command held c.in-Ok.code made (tells_stuck (report_of command.mode) p.ran.answer) p.ran.steps p.stuck c.run_mode-profiled.ensures.told.1,
     )
 
 pub returns-in-Err-clause-says : goal.returns-in-Err-clause-says
@@ -70,7 +69,7 @@ returns-in-Err-clause-says g c = λ text is held under.
     record { none = c.without_code.ensures.1; still = record { steps_none = c.without_code.ensures.2; out_same = refl } }
     (λ r e. inr (
       subst (λ a. length a ≤ most_args) c.requires.args c.requires.args_size,
-      text_refused (shown c.args.command.now) held r c.args.command.now.mode text under
+      text_refused (shown c.args.command.now) held r (source_of c.args.command.now.mode) text under
           (subst (λ x. IsRefusedAs (shown c.args.command.now) x r) (sym is) (inr (c.requires.checked.0.accepted, c.in-Err.ensures.refused r (ap Err e)))),
     )))
 

@@ -1,3 +1,0 @@
-// When code of any target carries a node.
-
-pub mod laws;
