@@ -1,5 +1,5 @@
 -- The names beside the macros of a table are theirs, in the same order.
-use Rattle.std.proofs.Common.{◌≡◌, ℕ, suc, ◌+◌, ◌<◌, arith, nat_lt, Bool, true, false, not, cond, List, [], ◌∷◌, ◌++◌, Some, None, refl, sym, ap, ◌∙◌, map, position, take, drop, length}
+use Rattle.std.proofs.Common.{◌≡◌, ℕ, suc, ◌+◌, ◌<◌, arith, nat_lt, Bool, true, false, not, cond, List, [], ◌∷◌, ◌++◌, Some, None, is_some, refl, sym, ap, ◌∙◌, map, position, take, drop, length}
 use Rattle.std.specs.Prelude.{◌||◌}
 use Rattle.std.specs.List.{list_any, position_or_len, remove, drop-map}
 use Rattle.std.specs.Set.{remove_key}
@@ -62,21 +62,31 @@ module _ {K : Type 0} (test : K → Bool) where
       by true f e rest = rw f (omega arith)
       by false f e rest = let lt = rest (ap (λ b. b || list_any test ks) (sym f) ∙ e) in rw f (omega (arith, lt))
 
-  pub absent : (ks : List K) → position test ks ≡ None → list_any test ks ≡ false
-  absent ks e = by (list_any test ks) refl
+  -- so something passes just where there is a place
+  is-among : (ks : List K) → list_any test ks ≡ is_some (position test ks)
+  is-among ks = by (list_any test ks) refl
     where
-      by : (b : Bool) → list_any test ks ≡ b → list_any test ks ≡ false
-      by false f = f
+      by : (b : Bool) → list_any test ks ≡ b → list_any test ks ≡ is_some (position test ks)
+      by false f = f ∙ sym (ap is_some (none ks f))
       by true f =
           let lt = some-at ks f in
           let there : nat_lt (position_or_len test ks) (length ks) ≡ true = grind (arith, lt) in
-          let found : Some (position_or_len test ks) ≡ None = sym (ap (λ b. cond b (Some (position_or_len test ks)) None) there) ∙ e in cc
+          f ∙ sym (ap (λ b. is_some (cond b (Some (position_or_len test ks)) None)) there)
 
 module _ {K M : Type 0} (bytes_of : K → List ℕ) (name_of : M → List ℕ) where
   -- it is the same in both lists
   pub same-place : (q : List ℕ) (ks : List K) (ms : List M) → map bytes_of ks ≡ map name_of ms
       → position (λ k. bytes_eq q (bytes_of k)) ks ≡ position (λ m. bytes_eq q (name_of m)) ms
   same-place q ks ms e = sym (held bytes_of q ks) ∙ ap (position (bytes_eq q)) e ∙ held name_of q ms
+
+  -- and it is in both or in none; `added` says whether it was not there, so that it is there now
+  pub was-there : (q : List ℕ) (ks : List K) (ms : List M) (added : Bool) → map bytes_of ks ≡ map name_of ms
+      → added ≡ not (list_any (λ k. bytes_eq q (bytes_of k)) ks) → is_some (position (λ m. bytes_eq q (name_of m)) ms) ≡ not added
+  was-there q ks ms added e is = sym (ap not is ∙ not-not (list_any (λ k. bytes_eq q (bytes_of k)) ks) ∙ is-among (λ k. bytes_eq q (bytes_of k)) ks ∙ ap is_some (same-place q ks ms e))
+    where
+      not-not : (b : Bool) → not (not b) ≡ b
+      not-not true = refl
+      not-not false = refl
 
   -- where one is taken out of both, or put after both, they stay so
   pub one-out : (i : ℕ) (ks : List K) (ms : List M) → map bytes_of ks ≡ map name_of ms → map bytes_of (remove ks i) ≡ map name_of (remove ms i)

@@ -25,18 +25,19 @@ pub struct Body {
     pub good: bool,
 }
 
-// Nothing of a body.
-fn no_body(alloc: Global) -> Body
-    ensures { result ≡ no_body }
+// Nothing of a body, with room for as many pieces as are said: most bodies take all of it, and no more.
+fn no_body(alloc: Global, most: usize) -> Result<Body, OutOfMemory>
+    ensures { IfOk result (λ b. b ≡ no_body) }
 {
-    Body {
-        pieces: Pieces::new(alloc),
+    let pieces = Pieces::with_capacity(alloc, most)?;
+    Ok(Body {
+        pieces,
         marks: Marks::new(alloc),
         gap: Pieces::new(alloc),
         glued: false,
         half: false,
         good: true,
-    }
+    })
 }
 
 // Returns the parameter that a word names.
@@ -161,7 +162,7 @@ pub(crate) fn body_of(
     requires inside { end ≤ length pieces.now }
     ensures { IfOk result (λ b. b ≡ body_of names.now (between from end pieces.now)) }
 {
-    let mut body = no_body(alloc);
+    let mut body = no_body(alloc, end - from)?;
     'pieces: for at in from..end {
         take_piece(&mut body, names, pieces, at)?;
     }

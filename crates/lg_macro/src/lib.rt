@@ -22,4 +22,4 @@ pub use pieces::{PieceKind, Pieces};
 pub use plain_text::PlainText;
 pub use spare::Spare;
 pub use substitution::substituted;
-pub use text::{Front, first_pieces, line_len, mark_in, text_pieces};
+pub use text::{Front, first_pieces, line_len, mark_in};

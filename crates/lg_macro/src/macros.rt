@@ -1,6 +1,6 @@
 // Macros, their table, and what an expansion keeps in mind.
 
-ghost use Rattle.std.specs.Prelude.{◌≡◌, ◌<◌, ◌==◌, ◌++◌, ◌-◌, ◌∷◌, [], if◌then◌else◌, length, nat_le, slice_get, sum_by, IfSome, OnOk, Some, None};
+ghost use Rattle.std.specs.Prelude.{◌≡◌, ◌<◌, ◌==◌, ◌++◌, ◌-◌, ◌∷◌, [], if◌then◌else◌, is_some, length, nat_le, slice_get, sum_by, IfOk, IfSome, OnOk, Some, None};
 ghost use Rattle.std.specs.List.{list_any, remove};
 ghost use Rattle.std.specs.Str.{bytes_eq};
 ghost use Rattle.lg_macro.specs.Macros.{place_in, counted, without, with_macro, CountsAs};
@@ -102,29 +102,30 @@ impl Table {
         }
     }
 
-    // Adds a macro whose name (this is a copy of it) no macro has.
-    fn add(&mut self, name: Vec<u8>, entry: Macro) -> Result<(), OutOfMemory>
-        requires name { name.items ≡ entry.name }
-        requires new { place_in self.old entry.name ≡ None }
-        ensures { OnOk result (self.new ≡ self.old ++ entry ∷ []) }
+    // Adds a macro, or gives it back where a macro has its name. The name is looked up once.
+    fn add(&mut self, entry: Macro) -> Result<Option<Macro>, OutOfMemory>
+        ensures given_back { IfOk result (λ r. r ≡ (if is_some (place_in self.old entry.name) then Some entry else None)) }
+        ensures rest { OnOk result (self.new ≡ (if is_some (place_in self.old entry.name) then self.old else self.old ++ entry ∷ [])) }
     {
-        self.macros.push(entry)?;
-        match self.names.insert_full(name) {
-            Ok(_) => Ok(()),
-            Err(_) => {
-                let _ = self.macros.pop();
-                Err(OutOfMemory)
-            }
+        let name = Vec::from_slice(self.alloc, entry.name.as_slice())?;
+        self.macros.reserve(1)?;
+        let (_, is_new) = self.names.insert_full(name)?;
+        if !is_new {
+            return Ok(Some(entry));
         }
+        self.macros.push_reserved(entry);
+        Ok(None)
     }
 
     /// Adds a macro in place of the one that had its name.
     pub fn define(&mut self, entry: Macro) -> Result<(), OutOfMemory>
         ensures { OnOk result (self.new ≡ with_macro self.old entry) }
     {
-        self.undefine(entry.name.as_slice());
-        let name = Vec::from_slice(self.alloc, entry.name.as_slice())?;
-        self.add(name, entry)
+        if let Some(entry) = self.add(entry)? {
+            self.undefine(entry.name.as_slice());
+            let _ = self.add(entry)?;
+        }
+        Ok(())
     }
 }
 

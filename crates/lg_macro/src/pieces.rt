@@ -93,6 +93,17 @@ impl Pieces {
         }
     }
 
+    /// No pieces, with room for as many as are said.
+    pub(crate) fn with_capacity(alloc: Global, most: usize) -> Result<Pieces, OutOfMemory>
+        ensures { IfOk result (λ r. r ≡ []) }
+    {
+        let parts = Vec::with_capacity(alloc, most)?;
+        Ok(Pieces {
+            bytes: Vec::new(alloc),
+            parts,
+        })
+    }
+
     /// Returns the pieces whose parts these are, one after another: together they are the text.
     pub(crate) fn of(alloc: Global, text: &[u8], parts: Vec<Part>) -> Result<Pieces, OutOfMemory>
         requires { AreParts text.now (length text.now) parts.items }

@@ -3,7 +3,7 @@
 ghost use Rattle.std.specs.Prelude.{◌≡◌, ◌+◌, ◌-◌, ◌++◌, ◌<◌, ◌≤◌, ◌==◌, ◌&&◌, ◌^◌, slice_index, not, true, false, length, map, drop, IfOk, IfSome};
 ghost use Rattle.lg_macro.specs.PieceParts.{AreParts, piece_of};
 ghost use Rattle.lg_macro.specs.Pieces.{piece_at, is_feed, is_spaced};
-ghost use Rattle.lg_macro.specs.Text.{is_comment, feeds_of, text_pieces, pieces_on, ends_with_slash, line_len, marks_line, begins_directive, mark_in};
+ghost use Rattle.lg_macro.specs.Text.{is_comment, feeds_of, pieces_on, ends_with_slash, line_len, marks_line, begins_directive, mark_in};
 
 use crate::cutting::front_of;
 use crate::pieces::{Part, PieceKind, Pieces};
@@ -30,33 +30,6 @@ fn line_after(line: u32, kind: PieceKind, piece: &[u8]) -> u32
         PieceKind::Comment | PieceKind::Feed => line + feeds_of(piece) as u32,
         _ => line,
     }
-}
-
-/// Returns the pieces of a text, each with the line of its first byte.
-pub fn text_pieces(alloc: Global, text: &[u8]) -> Result<Pieces, OutOfMemory>
-    requires { length text.now ≤ 16777216 }
-    ensures { IfOk result (λ r. r ≡ text_pieces (length text.now) 1 text.now) }
-{
-    let mut parts: Vec<Part> = Vec::new(alloc);
-    let end = text.len();
-    let mut at = 0;
-    let mut line: u32 = 1;
-    'pieces: while at < end {
-        let rest = behind(text, at);
-        let (kind, n) = front_of(rest);
-        let piece = ahead(rest, n);
-        parts.push(Part {
-            kind,
-            frozen: false,
-            line,
-            start: at,
-            end: at + n,
-        })?;
-        line = line_after(line, kind, piece);
-        at += n;
-    }
-    let pieces = Pieces::of(alloc, text, parts)?;
-    Ok(pieces)
 }
 
 /// The first pieces of a text, how many bytes they have, and the line after them.

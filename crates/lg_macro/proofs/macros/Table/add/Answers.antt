@@ -1,15 +1,32 @@
-use Rattle.std.proofs.Common.{sym, ap, ◌∙◌, map, if◌then◌else◌, ◌++◌, ◌∷◌, []}
-use Rattle.std.specs.Str.{bytes_eq}
+use Rattle.std.proofs.Common.{◌≡◌, sym, ap, ◌∙◌, not, if◌then◌else◌, true, false, ◌++◌, ◌∷◌, [], Some, None, is_some}
 use Rattle.lg_macro.specs.declared.macros.Macro.{Macro}
 use Rattle.lg_macro.specs.Macros.{place_in}
-use Rattle.lg_macro.proofs.TableLemmas.{same-place, absent, one-more}
+use Rattle.lg_macro.proofs.TableLemmas.{was-there}
 use Rattle.lg_macro.proofs.macros.Table.add.Goals as goal
 
-pub invariant_of-self-in-Ok : goal.invariant_of-self-in-Ok
-invariant_of-self-in-Ok c =
-    let ks = c.self.inside.names.keys in
-    let none = same-place (λ w. w.items) (λ (m : Macro). m.name) c.args.name.items ks c.self.inside.macros.items c.self.invariant
-    ∙ ap (λ t. place_in t c.args.name.items) c.self.view_is ∙ ap (place_in c.args.self.now) c.requires.name ∙ c.requires.new in
-    ap (map (λ w. w.items)) (c.in-Ok.ensures.keys ∙ ap (λ b. if b then ks else ks ++ c.args.name ∷ []) (absent (λ w. bytes_eq c.args.name.items w.items) ks none))
-    ∙ one-more (λ w. w.items) (λ (m : Macro). m.name) c.args.name c.args.entry ks c.self.inside.macros.items c.requires.name c.self.invariant
-    ∙ ap (map (λ (m : Macro). m.name)) (sym c.in_ok-push.ensures.items)
+-- where the name was added, no macro had it
+none : (c : goal.After-push_reserved) → is_some (place_in c.args.self.now c.args.entry.name) ≡ false
+none c = sym (ap (λ n. is_some (place_in c.args.self.now n)) (c.in_ok-name.ensures.items ∙ c.as_slice.ensures.value))
+    ∙ sym (ap (λ t. is_some (place_in t c.in_ok-name.name.items)) c.self.view_is)
+    ∙ was-there (λ w. w.items) (λ (m : Macro). m.name) c.in_ok-name.name.items c.self.inside.names.keys c.self.inside.macros.items c.in_ok-is_new.is_new c.self.invariant c.in_ok-is_new.ensures.added
+    ∙ ap not c.if-not-is_new.false
+
+-- where it was not, one had it
+some : (c : goal.Then-not-is_new) → is_some (place_in c.args.self.now c.args.entry.name) ≡ true
+some c = sym (ap (λ n. is_some (place_in c.args.self.now n)) (c.in_ok-name.ensures.items ∙ c.as_slice.ensures.value))
+    ∙ sym (ap (λ t. is_some (place_in t c.in_ok-name.name.items)) c.self.view_is)
+    ∙ was-there (λ w. w.items) (λ (m : Macro). m.name) c.in_ok-name.name.items c.self.inside.names.keys c.self.inside.macros.items c.in_ok-is_new.is_new c.self.invariant c.in_ok-is_new.ensures.added
+    ∙ ap not c.if-not-is_new.true
+
+pub returns-then-not-is_new-clause-given_back : goal.returns-then-not-is_new-clause-given_back
+returns-then-not-is_new-clause-given_back c = ap (λ b. if b then Some c.args.entry else None) (sym (some c))
+
+pub returns-then-not-is_new-clause-rest : goal.returns-then-not-is_new-clause-rest
+returns-then-not-is_new-clause-rest c = c.in_ok-reserve.ensures.items ∙ c.self.view_is ∙ ap (λ b. if b then c.args.self.now else c.args.self.now ++ c.args.entry ∷ []) (sym (some c))
+
+pub returns-clause-given_back : goal.returns-clause-given_back
+returns-clause-given_back c = ap (λ b. if b then Some c.args.entry else None) (sym (none c))
+
+pub returns-clause-rest : goal.returns-clause-rest
+returns-clause-rest c = c.push_reserved.ensures.items ∙ ap (λ t. t ++ c.args.entry ∷ []) (c.in_ok-reserve.ensures.items ∙ c.self.view_is)
+    ∙ ap (λ b. if b then c.args.self.now else c.args.self.now ++ c.args.entry ∷ []) (sym (none c))
