@@ -42,9 +42,6 @@ module _ (new old : List ℕ) where
   number_same RvAuipcJalr place same = λ j. (signed 524288 (part 12 20 (first_same place same j)) *ℤ pos 4096) +ℤ signed 2048 (part 20 12 (second_same place same j))
 
   pub rest_same : (kind : FixKind) (place : ℕ) → SameIn place (fix_len kind) → field_rest kind new place ≡ field_rest kind old place
-  rest_same X86Rel8 place same = refl
-  rest_same X86Rel32 place same = refl
-  rest_same X86Abs32 place same = refl
   rest_same A64Branch26 place same = ap (λ w. (part 26 6 w, 0)) (word_same place same)
   rest_same A64Cond19 place same = ap (λ w. (cond_rest w, 0)) (word_same place same)
   rest_same A64MovPair place same = λ j. (move_rest (first_same place same j), move_rest (second_same place same j))
@@ -52,6 +49,7 @@ module _ (new old : List ℕ) where
   rest_same RvJal place same = ap (λ w. (part 0 12 w, 0)) (word_same place same)
   rest_same RvLuiAddi place same = λ j. (part 0 12 (first_same place same j), part 0 20 (second_same place same j))
   rest_same RvAuipcJalr place same = λ j. (part 0 12 (first_same place same j), part 0 20 (second_same place same j))
+  rest_same other place same = refl
 
 -- a byte of one fix is none of a fix that is apart
 byte_outside : (i : ℕ) (f g : Fix) → AreApart f g → f.place ≤ i → i < f.place + fix_len f.kind → IsOutside i g

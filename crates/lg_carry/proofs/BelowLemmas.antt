@@ -29,8 +29,7 @@ use Rattle.lg_carry.specs.Below.{LooksSame, StatesAreKept, StandsAreKept}
 -- at and above the stack pointer, and off the stack part, all counts
 pub not-below : (target : Target) (stack a : ℕ) → (a < 0x3FF00000) ⊎ (stack ≤ a) → is_below target stack a ≡ false
 not-below X86_64 stack a h = grind (arith, h)
-not-below Aarch64 stack a h = grind (arith, h)
-not-below Riscv64 stack a h = grind (arith, h)
+not-below other stack a h = grind (arith, h)
 
 -- before its `prolog` a frame has no size and no locals
 empty : (b : Bool) (l at p : ℕ) → not (at == p) ≡ b → b ≡ false → at ≡ p
@@ -45,8 +44,7 @@ linked-kept None m n w v stack address some e same h = word-kept m n (return_wor
 -- a stack pointer that is arriving lies at or below the frame's
 arriving-low : (target : Target) (stack : ℕ) → arriving (link_register target) stack ≤ stack
 arriving-low X86_64 stack = omega arith
-arriving-low Aarch64 stack = omega arith
-arriving-low Riscv64 stack = omega arith
+arriving-low other stack = omega arith
 
 module _ (target : Target) (c : Code) (live : Frame → ℕ → Bool) (s : State) (q r : Seen) (S : ℕ → Bool) (few : ArePassedFew c.nodes.nodes)
     (st : StatesAgree target c live s q S) (seen : IsSeen r) (look : LooksSame (is_below target (stack_of target q)) q r) where

@@ -19,8 +19,7 @@ use Rattle.lg_carry.proofs.BelowLemmas.{not-below, state-kept, touches-same}
 -- where the stack pointer does not fall, what did not count does not count
 stays-below : (target : Target) (s t a : ℕ) → s ≤ t → is_below target t a ≡ false → is_below target s a ≡ false
 stays-below X86_64 s t a h e = grind (arith, h, e)
-stays-below Aarch64 s t a h e = grind (arith, h, e)
-stays-below Riscv64 s t a h e = grind (arith, h, e)
+stays-below other s t a h e = grind (arith, h, e)
 
 module _ {Q : Type 0} (P : Processor Q) where
   -- a change more, where more does not count

@@ -33,8 +33,7 @@ use Rattle.lg_carry.proofs.DisturbedLemmas.{same-more, same-self, disturbs-same,
 
 below-more : (target : Target) (s t a : ℕ) → s ≤ t → is_below target s a ≡ true → is_below target t a ≡ true
 below-more X86_64 s t a h e = grind (arith, h, e)
-below-more Aarch64 s t a h e = grind (arith, h, e)
-below-more Riscv64 s t a h e = grind (arith, h, e)
+below-more other s t a h e = grind (arith, h, e)
 
 off-more : (b c : Bool) → (b ≡ true → c ≡ true) → c ≡ false → b ≡ false
 off-more true c h e = let z : true ≡ false = sym (h refl) ∙ e in cc
@@ -43,9 +42,8 @@ off-more false c h e = refl
 -- a node whose way sinks is no return
 sink-no-rise : (o : Op) → (is_prolog o || is_call o) ≡ true → is_return o ≡ true → ⊥
 sink-no-rise (op.Control control.Ret last) h k = cc
-sink-no-rise (op.Plain plain.Ret) h k = cc
-sink-no-rise (op.Plain plain.Epilog) h k = cc
 sink-no-rise o h k = cc
+sink-no-rise other h k = cc
 
 sinks-no-rise : (o : Option Node) → sinks_at o ≡ true → rises_at o ≡ true → ⊥
 sinks-no-rise None h k = cc

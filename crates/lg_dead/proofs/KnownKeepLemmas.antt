@@ -93,13 +93,8 @@ module _ (l : LabelledNodes) (keep : ℕ → Bool) (targets : ℕ → Option Lab
 -- ---- nodes can be folded only by what they read
 
 pub same-itself : (a : Reg) → a ≢ Fp → is_same a a ≡ true
-same-itself R0 e = refl
-same-itself R1 e = refl
-same-itself R2 e = refl
-same-itself V0 e = refl
-same-itself V1 e = refl
-same-itself V2 e = refl
 same-itself Fp e = absurd (e refl)
+same-itself other e = refl
 
 module _ (f g : Reg → Option ℕ) (fp : f Fp ≡ None) (n : Node) (more : (r : Reg) (v : ℕ) → is_read n r ≡ true → f r ≡ Some v → g r ≡ Some v) where
   not-fp : (r : Reg) (v : ℕ) → f r ≡ Some v → r ≢ Fp
@@ -108,9 +103,7 @@ module _ (f g : Reg → Option ℕ) (fp : f Fp ≡ None) (n : Node) (more : (r :
   number-more : (x : Operand) (v : ℕ) → ((r : Reg) → x ≡ operand.Reg r → r ≢ Fp → is_read n r ≡ true) → number_in f x ≡ Some v → number_in g x ≡ Some v
   number-more (operand.Reg r) v h e = more r v (h r refl (not-fp r v e)) e
   number-more (operand.Number k) v h e = e
-  number-more (operand.Label k) v h e = cc
-  number-more (operand.Host k) v h e = cc
-  number-more (operand.Slot k) v h e = cc
+  number-more other v h e = cc
 
   -- the operands that are read
   second-read : (fs : List Form) (d a : Operand) (xs : List Operand) (r : Reg) → a ≡ operand.Reg r → r ≢ Fp → (h : Form) → names access.Read (h ∷ form.Read ∷ fs) (d ∷ a ∷ xs) r ≡ true

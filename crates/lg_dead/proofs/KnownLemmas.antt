@@ -81,12 +81,7 @@ no-fp-known l (suc i) = by (is_labelled l.places (suc i)) (slice_get l.nodes i) 
   where
     same-fp : (q : Reg) → is_same q Fp ≡ false
     same-fp R0 = refl
-    same-fp R1 = refl
-    same-fp R2 = refl
-    same-fp V0 = refl
-    same-fp V1 = refl
-    same-fp V2 = refl
-    same-fp Fp = refl
+    same-fp other = refl
 
     no-move : (o : Op) (xs : List Operand) → moved_number o xs Fp ≡ None
     no-move (op.Plain plain.Movi) (operand.Reg q ∷ operand.Number v ∷ []) = ap (λ b. if b then Some v else None) (same-fp q)
@@ -156,13 +151,8 @@ moved-is (op.Plain plain.Movi) (operand.Reg q ∷ operand.Number v ∷ []) r w e
 moved-is o xs r w e = cc
 
 same-true : (r : Reg) → r ≢ Fp → is_same r r ≡ true
-same-true R0 ne = refl
-same-true R1 ne = refl
-same-true R2 ne = refl
-same-true V0 ne = refl
-same-true V1 ne = refl
-same-true V2 ne = refl
 same-true Fp ne = absurd (ne refl)
+same-true other ne = refl
 
 module _ (l : LabelledNodes) where
   -- ---- what is known was moved

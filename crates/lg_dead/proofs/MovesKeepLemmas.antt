@@ -86,12 +86,7 @@ module _ (f : Reg → Option Reg) (n : Node) (k : Move) (into : is_written n k.i
     where
       equal : (r : Reg) → is_equal r r ≡ true
       equal R0 = refl
-      equal R1 = refl
-      equal R2 = refl
-      equal V0 = refl
-      equal V1 = refl
-      equal V2 = refl
-      equal Fp = refl
+      equal other = refl
 
       by : (b : Bool) → is_equal k.into k.into ≡ b → (if b then Some k.from else after_other f n k.into) ≡ Some k.from
       by true e = refl
@@ -150,13 +145,8 @@ unnamed-fp a (f ∷ fs) (x ∷ xs) = ap (λ b. b || (is_for a f && is_register F
   where
     never : (x : Operand) → is_register Fp x ≡ false
     never (operand.Reg R0) = refl
-    never (operand.Reg R1) = refl
-    never (operand.Reg R2) = refl
-    never (operand.Reg V0) = refl
-    never (operand.Reg V1) = refl
-    never (operand.Reg V2) = refl
-    never (operand.Reg Fp) = refl
     never x = refl
+    never other = refl
 
     by : (b : Bool) → (false || (b && false)) ≡ false
     by true = refl
@@ -305,12 +295,7 @@ module _ (l : LabelledNodes) (shape new_shape : TextShape) (is : IsShapeOf l sha
     where
       itself : (r : Reg) → is_equal r r ≡ true
       itself R0 = refl
-      itself R1 = refl
-      itself R2 = refl
-      itself V0 = refl
-      itself V1 = refl
-      itself V2 = refl
-      itself Fp = refl
+      itself other = refl
 
   module _ (i k : ℕ) (n : Node) (e : slice_get l.nodes i ≡ Some n) (c : IsSuccessor l shape i k) where
     -- after a move that stays

@@ -40,12 +40,8 @@ module _ (l : LabelledNodes) (shape new_shape : TextShape) (keep : ℕ → Bool)
   nu = new_number keep
 
   target-moved : (xs : List Operand) (k : ℕ) → target_of l.places xs ≡ Some (place.Node k) → target_of m.places xs ≡ Some (place.Node (nu k))
-  target-moved [] k e = cc
   target-moved (operand.Label y ∷ xs) k e = place-moved l keep no_targets y ∙ ap (moved_place nu) e
-  target-moved (operand.Reg y ∷ xs) k e = cc
-  target-moved (operand.Number y ∷ xs) k e = cc
-  target-moved (operand.Host y ∷ xs) k e = cc
-  target-moved (operand.Slot y ∷ xs) k e = cc
+  target-moved other k e = cc
 
   goes-moved : (i k : ℕ) (n : Node) → slice_get l.nodes i ≡ Some n → keep i ≡ true → nu k < length m.nodes → (w : Way) → GoesBy l shape i n w k → GoesBy m new_shape (nu i) n w (nu k)
   goes-moved i k n here s lt Next g = (ap nu (g.0 ∙ add-one i) ∙ number-stays keep i s, lt)

@@ -294,8 +294,7 @@ HasEnded Operator = Unit {0}
 
 has_ended : (next : Next) (steps : List Step) (waiting : List Waiting) → HasEnded (ended (at steps waiting next)).next
 has_ended Operand steps waiting = tt
-has_ended (Digits n) steps waiting = tt
-has_ended Operator steps waiting = tt
+has_ended other steps waiting = tt
 
 ended_is_read : (next : Next) (waiting : List Waiting) (steps : List Step) (text : List ℕ) → Stands next waiting steps text → IsRead (ended (at steps waiting next)) text
 ended_is_read Operand waiting steps text h = h
@@ -355,10 +354,8 @@ enclosed_has ws steps text h =
     }
 
 closed_by_after : (waiting : List Waiting) (steps : List Step) (text : List ℕ) → Has comparison waiting steps text → After (closed_by waiting (at steps waiting Operator)) (text ++ closing ∷ [])
-closed_by_after [] steps text h = tt
 closed_by_after (waits.Open ∷ ws) steps text h = enclosed_has ws steps text h
-closed_by_after (waits.Negate ∷ ws) steps text h = tt
-closed_by_after (waits.Operation op ∷ ws) steps text h = tt
+closed_by_after other steps text h = tt
 
 closed_after : (next : Next) (waiting : List Waiting) (steps : List Step) (text : List ℕ) → Stands next waiting steps text → After (closed_from next (at steps waiting next)) (text ++ closing ∷ [])
 closed_after Operand waiting steps text h = tt
@@ -497,9 +494,7 @@ whole_after s text h = let e = ended s in whole_from_after e.next e.waiting e.st
 whole_of_after : (r : Result State ReadError) (text : List ℕ) → After r text → AfterWhole (whole_of r) text
 whole_of_after (Ok s) text h = whole_after s text h
 whole_of_after (Err NoExpression) text h = tt
-whole_of_after (Err NumberTooWide) text h = h
-whole_of_after (Err TooLarge) text h = h
-whole_of_after (Err OutOfMemory) text h = h
+whole_of_after other text h = h
 
 steps_after : (text : List ℕ) → AfterWhole (steps_read text) text
 steps_after text = whole_of_after (read_on start text) text (read_after text start [] (nothing_after [] [] [] (refl, refl)))

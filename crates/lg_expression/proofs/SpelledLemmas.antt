@@ -22,17 +22,13 @@ at steps waiting next = record { steps = steps; waiting = waiting; next = next }
 
 pub least_closeness : (o : BinaryOp) → 1 ≤ closeness o
 least_closeness Mul = omega arith
-least_closeness Div = omega arith
-least_closeness Add = omega arith
-least_closeness Sub = omega arith
 least_closeness o = omega arith
+least_closeness other = omega arith
 
 pub most_closeness : (o : BinaryOp) → closeness o ≤ 3
 most_closeness Mul = omega arith
-most_closeness Div = omega arith
-most_closeness Add = omega arith
-most_closeness Sub = omega arith
 most_closeness o = omega arith
+most_closeness other = omega arith
 
 -- what waits takes no text of this level for its own
 abbrev pub fits : ℕ → List Waiting → Bool
@@ -42,10 +38,8 @@ fits level (waits.Negate ∷ ws) = nat_le operand level
 fits level (waits.Operation o ∷ ws) = nat_lt (closeness o) level
 
 pub fits_operand : (ws : List Waiting) → fits operand ws ≡ true
-fits_operand [] = refl
-fits_operand (waits.Open ∷ ws) = refl
-fits_operand (waits.Negate ∷ ws) = refl
 fits_operand (waits.Operation o ∷ ws) = lt-ltb (closeness o) 4 (omega (arith, most_closeness o))
+fits_operand other = refl
 
 fits_more : (level : ℕ) (ws : List Waiting) → fits level ws ≡ true → fits (suc level) ws ≡ true
 fits_more level [] h = refl
@@ -155,8 +149,7 @@ whole_operand text spelled steps waiting to run e = record {
 
 ended_by : (next : Next) (steps : List Step) (waiting : List Waiting) → ended (ended (at steps waiting next)) ≡ ended (at steps waiting next)
 ended_by Operand steps waiting = refl
-ended_by (Digits n) steps waiting = refl
-ended_by Operator steps waiting = refl
+ended_by other steps waiting = refl
 
 ended_twice : (s : State) → ended (ended s) ≡ ended s
 ended_twice s = ended_by s.next s.steps s.waiting

@@ -40,10 +40,7 @@ no_slash (Byte b) e = by (b == 92) refl e
 not_spaced : (kind : PieceKind) → is_straight kind ≡ true → is_spaced kind ≡ false
 not_spaced Comment e = absurd (true≢false (sym e))
 not_spaced Feed e = absurd (true≢false (sym e))
-not_spaced Quoted e = refl
-not_spaced Word e = refl
-not_spaced Number e = refl
-not_spaced (Byte b) e = refl
+not_spaced other e = refl
 
 straight_first : (p : Piece) (rest : List Piece) → is_straight p.kind ≡ true → spliced (p ∷ rest) ≡ p ∷ spliced rest
 unfolding spliced

@@ -86,18 +86,13 @@ module _ (s : State) (d : Operand) where
   quotient_why binary.Rem a b e = divided ((b == 0) || is_least_by_minus_one a b) _ (NoQuotient a b)
   quotient_why binary.DivU a b e = divided (b == 0) _ (NoQuotient a b)
   quotient_why binary.RemU a b e = divided (b == 0) _ (NoQuotient a b)
-  quotient_why binary.Addc a b e = cc
-  quotient_why binary.Subc a b e = cc
-  quotient_why binary.Addx a b e = cc
-  quotient_why binary.Subx a b e = cc
   quotient_why o a b e = refl
+  quotient_why other a b e = cc
 
 carried_divides : (o : BinaryOp) (a b : ℕ) → sets_carry o ≡ true → cannot_divide o a b ≡ false
 carried_divides binary.Div a b e = cc
-carried_divides binary.Rem a b e = cc
-carried_divides binary.DivU a b e = cc
-carried_divides binary.RemU a b e = cc
 carried_divides o a b e = refl
+carried_divides other a b e = cc
 
 carry_why : (k : Option Bool) (f : Bool → State) → IsWhy (need k (λ bit. quiet (f bit))) (first (where_so (is_none k) NoCarry ∷ None ∷ none_8))
 carry_why None f = refl
@@ -147,8 +142,7 @@ module _ (t : Text) (s : State) (args : List ℕ) where
 
   host_why : (h : Host) (r : Reason) → IsWhy (host_end s h) (first (where_so (is_undefined h) r ∷ None ∷ []))
   host_why (Gives v changes mark bytes) r = refl
-  host_why (Exits status) r = refl
-  host_why host.Undefined r = refl
+  host_why other r = refl
 
   call_why : (c : Option Called) (w : ℕ) → IsWhy (call_of c) (first (where_none c (NoFunction w) ∷ given c (finds_no_room s) ∷ None ∷ None ∷ given c (is_not_allowed s args) ∷ None ∷ []))
   call_why None w = refl
@@ -162,12 +156,9 @@ leave_why s v (g ∷ gs) = refl
 -- ---- the step of a node
 module _ (t : Text) (n : Node) (s : State) where
   callee_first : (xs : List Operand) → admit (form.Callee ∷ []) xs ≡ true → (w : ℕ) × (value t.addresses s (slice_index_or xs 0 (operand.Number 0)) ≡ Some w)
-  callee_first [] e = cc
   callee_first (operand.Label x ∷ xs) e = (slice_index t.addresses x.0, refl)
   callee_first (operand.Host name ∷ xs) e = (host_address name, refl)
-  callee_first (operand.Reg r ∷ xs) e = cc
-  callee_first (operand.Number k ∷ xs) e = cc
-  callee_first (operand.Slot k ∷ xs) e = cc
+  callee_first other e = cc
 
   abbrev value_of : ℕ → Option ℕ
   value_of i = value t.addresses s (operand_at n i)
@@ -222,11 +213,7 @@ module _ (t : Text) (n : Node) (s : State) where
   plain_by plain.VaStart h = reads_one (value_of 1) (unset 1) _ _ (λ w f. refl)
   plain_by plain.VaArg h = reads_one (value_of 1) (unset 1) _ _ (λ i e. rw e (missing (slice_get s.frame.args i) (NoVariable i) _ _ (λ v f. refl)))
   plain_by plain.VaEnd h = reads_one (value_of 0) (unset 0) _ _ (λ w f. refl)
-  plain_by plain.Prepare h = refl
-  plain_by plain.Ellipsis h = refl
-  plain_by plain.Arg h = refl
-  plain_by plain.Allocai h = refl
-  plain_by plain.Align h = refl
+  plain_by other h = refl
 
   -- loads and stores
   loads : (v : ValueType) (a : ℕ) → IsWhy (load_to s v a (operand_at n 0)) (first (first (outside s a (width v) ∷ where_none (loaded s.mem a (width v)) (Unwritten (width v) a) ∷ []) ∷ none_7))

@@ -15,26 +15,18 @@ use Rattle.lg_node.specs.Walks.{is_mark, walk_after}
 
 pub inner : (p i : ℕ) (call : Option Preparation) (varies : Bool) (xs : List Operand) (o : Op) → is_mark o ≡ false
     → (open_after (home_of (Some p) i o) o ≡ Some p) × (is_prolog o ≡ false) × (is_arg o ≡ false) × (local_of o xs ≡ 0) × (prepared_after call o ≡ call) × (varies_after varies call o ≡ varies)
-inner p i None varies xs (op.Binary a b) e = (refl, refl, refl, refl, refl, refl)
 inner p i (Some x) varies xs (op.Binary a b) e = (refl, refl, refl, refl, refl, refl)
-inner p i None varies xs (op.Wide a b) e = (refl, refl, refl, refl, refl, refl)
 inner p i (Some x) varies xs (op.Wide a b) e = (refl, refl, refl, refl, refl, refl)
-inner p i None varies xs (op.Branch a b) e = (refl, refl, refl, refl, refl, refl)
 inner p i (Some x) varies xs (op.Branch a b) e = (refl, refl, refl, refl, refl, refl)
-inner p i None varies xs (op.BranchSum a b) e = (refl, refl, refl, refl, refl, refl)
 inner p i (Some x) varies xs (op.BranchSum a b) e = (refl, refl, refl, refl, refl, refl)
-inner p i None varies xs (op.Unary a) e = (refl, refl, refl, refl, refl, refl)
 inner p i (Some x) varies xs (op.Unary a) e = (refl, refl, refl, refl, refl, refl)
-inner p i None varies xs (op.Load a b) e = (refl, refl, refl, refl, refl, refl)
 inner p i (Some x) varies xs (op.Load a b) e = (refl, refl, refl, refl, refl, refl)
-inner p i None varies xs (op.Store a b) e = (refl, refl, refl, refl, refl, refl)
 inner p i (Some x) varies xs (op.Store a b) e = (refl, refl, refl, refl, refl, refl)
-inner p i None varies xs (op.Retval a) e = (refl, refl, refl, refl, refl, refl)
 inner p i (Some x) varies xs (op.Retval a) e = (refl, refl, refl, refl, refl, refl)
-inner p i None varies xs (op.Getarg a) e = (refl, refl, refl, refl, refl, refl)
 inner p i (Some x) varies xs (op.Getarg a) e = (refl, refl, refl, refl, refl, refl)
 inner p i call varies xs (op.Plain a) e = cc
 inner p i call varies xs (op.Control a b) e = cc
+inner p i None varies xs other e = (refl, refl, refl, refl, refl, refl)
 
 abbrev known : Option ℕ → Bool → ℕ → ℕ → Option Preparation → Bool → Walk
 known function begun args locals call varies = record { function = function; begun = begun; args = args; locals = locals; call = call; varies = varies }

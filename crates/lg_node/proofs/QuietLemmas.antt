@@ -38,26 +38,18 @@ none_missing places (x ∷ xs) e =
     or_from (is_missing places x) (list_any (is_missing places) xs) (found places x parts.0) (none_missing places xs parts.1)
 
 good_call : (varies labelled : Bool) (o : Op) → is_mark o ≡ false → is_bad_call None varies labelled o ≡ false
-good_call true labelled (op.Binary a b) e = refl
 good_call false labelled (op.Binary a b) e = refl
-good_call true labelled (op.Wide a b) e = refl
 good_call false labelled (op.Wide a b) e = refl
-good_call true labelled (op.Branch a b) e = refl
 good_call false labelled (op.Branch a b) e = refl
-good_call true labelled (op.BranchSum a b) e = refl
 good_call false labelled (op.BranchSum a b) e = refl
-good_call true labelled (op.Unary a) e = refl
 good_call false labelled (op.Unary a) e = refl
-good_call true labelled (op.Load a b) e = refl
 good_call false labelled (op.Load a b) e = refl
-good_call true labelled (op.Store a b) e = refl
 good_call false labelled (op.Store a b) e = refl
-good_call true labelled (op.Retval a) e = refl
 good_call false labelled (op.Retval a) e = refl
-good_call true labelled (op.Getarg a) e = refl
 good_call false labelled (op.Getarg a) e = refl
 good_call varies labelled (op.Plain a) e = cc
 good_call varies labelled (op.Control a b) e = cc
+good_call true labelled other e = refl
 
 false_of : (b : Bool) → not b ≡ true → b ≡ false
 false_of false e = refl

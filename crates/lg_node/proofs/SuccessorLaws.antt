@@ -70,29 +70,18 @@ next_way op e = refl
 either_way : (op : Op) → way_of op ≡ Either → (is_epilog op ≡ false) × (has_target op ≡ true)
 either_way (Branch condition last) e = (refl, refl)
 either_way (BranchSum sum last) e = (refl, refl)
-either_way (Control control.Jmp last_operand.Immediate) e = absurd (cc)
-either_way (Control control.Jmp last_operand.Register) e = absurd (cc)
-either_way (Control control.Ret last) e = absurd (cc)
-either_way (Plain plain.Ret) e = absurd (cc)
-either_way (Plain plain.Epilog) e = absurd (cc)
 either_way op e = absurd (cc)
+either_way other e = absurd (cc)
 
 jump_way : (op : Op) → way_of op ≡ Jump → has_target op ≡ true
 jump_way (Control control.Jmp last_operand.Immediate) e = refl
-jump_way (Control control.Jmp last_operand.Register) e = cc
-jump_way (Control control.Ret last) e = cc
-jump_way (Plain plain.Ret) e = cc
-jump_way (Plain plain.Epilog) e = cc
 jump_way op e = cc
+jump_way other e = cc
 
 -- the label of a target
 target_label : (places : List (Option Place)) (operands : List Operand) (o : Place) → target_of places operands ≡ Some o → (x : Label) × (xs : List Operand) × (operands ≡ operand.Label x ∷ xs) × (place_of places x ≡ Some o)
-target_label places [] o e = cc
 target_label places (operand.Label x ∷ xs) o e = (x, xs, refl, e)
-target_label places (operand.Reg r ∷ xs) o e = cc
-target_label places (operand.Number m ∷ xs) o e = cc
-target_label places (operand.Host h ∷ xs) o e = cc
-target_label places (operand.Slot m ∷ xs) o e = cc
+target_label places other o e = cc
 
 node_of : (k m : ℕ) (o : Option Place) → o ≡ Some (place.Node m) → o ≡ Some (place.Node k) → m ≡ k
 node_of k m o e f = cc

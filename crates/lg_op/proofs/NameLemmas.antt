@@ -112,17 +112,7 @@ long_again (Load value_type.Long at) h = every_address (λ a. IsFoundLong (Load 
 long_again (Store store_type.Long at) h = every_address (λ a. IsFoundLong (Store store_type.Long a)) refl refl refl refl at
 long_again (Retval value_type.Long) h = refl
 long_again (Getarg value_type.Long) h = refl
-long_again (Binary op last) h = absurd (false≢true h)
-long_again (Wide op last) h = absurd (false≢true h)
-long_again (Branch op last) h = absurd (false≢true h)
-long_again (BranchSum op last) h = absurd (false≢true h)
-long_again (Control op last) h = absurd (false≢true h)
-long_again (Unary op) h = absurd (false≢true h)
-long_again (Plain op) h = absurd (false≢true h)
-long_again (Load _ at) h = absurd (false≢true h)
-long_again (Store _ at) h = absurd (false≢true h)
-long_again (Retval _) h = absurd (false≢true h)
-long_again (Getarg _) h = absurd (false≢true h)
+long_again other h = absurd (false≢true h)
 
 -- a test of a word says whether it names the operation
 is_name_of : (op : Op) (word : List ℕ) → is_name op word ≡ true → IsName op word

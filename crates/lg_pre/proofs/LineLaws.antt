@@ -164,11 +164,8 @@ IsQuietName p (Some place) = feeds_of p.text ≡ 0
 
 word_is_not_spaced : (kind : PieceKind) → is_word kind ≡ true → is_spaced kind ≡ false
 word_is_not_spaced Comment h = absurd (false≢true h)
-word_is_not_spaced Quoted h = refl
-word_is_not_spaced Word h = refl
-word_is_not_spaced Number h = refl
 word_is_not_spaced Feed h = absurd (false≢true h)
-word_is_not_spaced (Byte b) h = refl
+word_is_not_spaced other h = refl
 
 name_by : (p : Piece) (b : Bool) (place : Option ℕ) → (b ≡ true → feeds_of p.text ≡ 0) → IsQuietName p (if b then place else None)
 name_by p true None h = tt
@@ -288,12 +285,8 @@ named_quiet pieces false h = with_body_quiet (piece_at pieces 0).text None [] (s
 named_quiet pieces true h = closed_quiet (piece_at pieces 0).text pieces (to_close (drop 2 pieces)) h
 
 written_by_quiet : (pieces : List Piece) (kind : PieceKind) → feeds_among pieces ≡ 0 → IsQuietMacro (written_by pieces kind)
-written_by_quiet pieces Comment h = tt
-written_by_quiet pieces Quoted h = tt
 written_by_quiet pieces Word h = named_quiet pieces (is_byte 40 (piece_at pieces 1).kind) h
-written_by_quiet pieces Number h = tt
-written_by_quiet pieces Feed h = tt
-written_by_quiet pieces (Byte b) h = tt
+written_by_quiet pieces other h = tt
 
 defines_by : (table : List Macro) (line : ℕ) (m : Option Macro) → IsQuietTable table → IsQuietMacro m → IfOk (sure line m >>= (λ entry. Ok (with_macro table entry))) IsQuietTable
 defines_by table line None quiet h = tt

@@ -62,12 +62,8 @@ marks_front [] ys h = cc
 marks_front (p ∷ xs) ys h = by (marks_front xs ys) p.kind h
   where
     by : (has_feed xs ≡ true → marks_line (xs ++ ys) ≡ marks_line xs) → (kind : PieceKind) → (is_feed kind || has_feed xs) ≡ true → (if is_byte 32 kind then marks_line (xs ++ ys) else is_number kind) ≡ (if is_byte 32 kind then marks_line xs else is_number kind)
-    by more Comment e = refl
-    by more Quoted e = refl
-    by more Word e = refl
-    by more Number e = refl
-    by more Feed e = refl
     by more (Byte b) e = ap (λ (m : Bool). if b == 32 then m else false) (more e)
+    by more other e = refl
 
 mark_front : (fresh : Bool) (xs ys : List Piece) → has_feed xs ≡ true → mark_in fresh (xs ++ ys) ≡ mark_in fresh xs
 unfolding mark_in
@@ -79,11 +75,8 @@ mark_front fresh (p ∷ xs) ys h = by (mark_front (fresh && not (is_comment p.ki
         → (if is_margin kind then further 1 (mark_in (fresh && not (is_comment p.kind)) (xs ++ ys)) else (if is_byte 35 kind && not (fresh && marks_line (xs ++ ys)) then Some 0 else None))
         ≡ (if is_margin kind then further 1 (mark_in (fresh && not (is_comment p.kind)) xs) else (if is_byte 35 kind && not (fresh && marks_line xs) then Some 0 else None))
     by more marks Comment e = ap (further 1) (more e)
-    by more marks Quoted e = refl
-    by more marks Word e = refl
-    by more marks Number e = refl
-    by more marks Feed e = refl
     by more marks (Byte b) e = ap₂ (λ (o : Option ℕ) (m : Bool). if (b == 32) || (b == 9) then further 1 o else (if (b == 35) && not (fresh && m) then Some 0 else None)) (more e) (marks e)
+    by more marks other e = refl
 
 between_front : (at end : ℕ) (xs ys : List Piece) → at ≤ end → end ≤ length xs → between at end (xs ++ ys) ≡ between at end xs
 between_front at end xs ys order inside =

@@ -24,27 +24,11 @@ use Rattle.lg_run.proofs.AgreementLemmas.{lasts, undefined_at}
 -- ---- counts
 read_inner : (a : Answer) (t : TextsChange) → TellsReads a t → t.faults < t.faults' → a ≡ ReadFault
 read_inner ReadFault t h lt = refl
-read_inner (Ended s) t h lt = absurd (omega (arith, h, lt))
-read_inner Listed t h lt = absurd (omega (arith, h, lt))
-read_inner (Undefined line) t h lt = absurd (omega (arith, h, lt))
-read_inner (Refused r) t h lt = absurd (omega (arith, h, lt))
-read_inner Usage t h lt = absurd (omega (arith, h, lt))
-read_inner WriteFault t h lt = absurd (omega (arith, h, lt))
-read_inner StepsOut t h lt = absurd (omega (arith, h, lt))
-read_inner (Fault kind pc) t h lt = absurd (omega (arith, h, lt))
-read_inner OutOfMemory t h lt = absurd (omega (arith, h, lt))
+read_inner other t h lt = absurd (omega (arith, h, lt))
 
 write_inner : (a : Answer) (s : SinkChange) → TellsWrites a s → s.faults < s.faults' → a ≡ WriteFault
 write_inner WriteFault s h lt = refl
-write_inner (Ended x) s h lt = absurd (omega (arith, h, lt))
-write_inner Listed s h lt = absurd (omega (arith, h, lt))
-write_inner (Undefined line) s h lt = absurd (omega (arith, h, lt))
-write_inner (Refused r) s h lt = absurd (omega (arith, h, lt))
-write_inner Usage s h lt = absurd (omega (arith, h, lt))
-write_inner ReadFault s h lt = absurd (omega (arith, h, lt))
-write_inner StepsOut s h lt = absurd (omega (arith, h, lt))
-write_inner (Fault kind pc) s h lt = absurd (omega (arith, h, lt))
-write_inner OutOfMemory s h lt = absurd (omega (arith, h, lt))
+write_inner other s h lt = absurd (omega (arith, h, lt))
 
 -- ---- the inner answer
 module _ (words : List (List ℕ)) (texts : TextsChange) (out : SinkChange) (code : Option Assembled) (steps : ℕ) where
@@ -57,16 +41,8 @@ module _ (words : List (List ℕ)) (texts : TextsChange) (out : SinkChange) (cod
   writes_of (Some c) a h = h.1.faults.writes
 
   no_command_reads : (a : Answer) → NoCommandSays words a → TellsReads a texts → texts.faults' ≡ texts.faults
-  no_command_reads Usage h reads = reads
-  no_command_reads OutOfMemory h reads = reads
-  no_command_reads (Ended s) h reads = reads
-  no_command_reads Listed h reads = reads
-  no_command_reads (Undefined line) h reads = reads
-  no_command_reads (Refused r) h reads = reads
   no_command_reads ReadFault h reads = absurd h
-  no_command_reads WriteFault h reads = reads
-  no_command_reads StepsOut h reads = reads
-  no_command_reads (Fault kind pc) h reads = reads
+  no_command_reads other h reads = reads
 
   surely_of : (asked : Option Command) (a : Answer) → AskedSays words asked texts out code steps a → texts.sure ≡ true → ((c : Command) → IsCommand words c → IsHeld texts.held c.file)
       → texts.faults' ≡ texts.faults
@@ -97,14 +73,7 @@ module _ (words : List (List ℕ)) (texts : TextsChange) (out : SinkChange) (cod
       at : (b : Answer) → NoCommandSays words b → (b ≡ Usage) ⊎ (b ≡ OutOfMemory)
       at Usage k = inl refl
       at OutOfMemory k = inr refl
-      at (Ended s) k = absurd k
-      at Listed k = absurd k
-      at (Undefined line) k = absurd k
-      at (Refused r) k = absurd k
-      at ReadFault k = absurd k
-      at WriteFault k = absurd k
-      at StepsOut k = absurd k
-      at (Fault kind pc) k = absurd k
+      at other k = absurd k
 
   -- the rows on runs
   steps_cause : (c : Command) (m : Action) (ran : Assembled) (made : IsCodeOf c texts.held ran) → ActionSays m c ran made.unit steps out StepsOut → StepsOutCause m c ran made.unit

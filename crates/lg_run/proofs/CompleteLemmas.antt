@@ -101,12 +101,7 @@ module _ (c : Command) (held : Option NamedTexts) (code : Assembled) (made : IsC
         sound = λ sound k p e. let bad = undefined_at c held code made steps kind says.2 in sound bad.0 bad.2;
       }
   complete_run steps out WriteFault says other = absurd (other refl)
-  complete_run steps out Listed says other = absurd says
-  complete_run steps out (Undefined line) says other = absurd says
-  complete_run steps out (Refused refusal) says other = absurd says
-  complete_run steps out Usage says other = absurd says
-  complete_run steps out ReadFault says other = absurd says
-  complete_run steps out OutOfMemory says other = absurd says
+  complete_run steps out others says other = absurd says
 
   -- ---- the meaning
   meant_at : (n : ℕ) (s : Status) → n ≤ c.steps → (code_meaning c code made.unit n).status ≡ s → (s ≡ Running → ⊥) → (code_meaning c code made.unit c.steps).status ≡ s
@@ -148,25 +143,13 @@ module _ (c : Command) (held : Option NamedTexts) (code : Assembled) (made : IsC
       undefined_ended : {s : ℕ} → Undefined line ≡ Ended s → ⊥
       undefined_ended e = cc
   complete_mean steps out WriteFault says other = absurd (other refl)
-  complete_mean steps out Listed says other = absurd says
-  complete_mean steps out (Fault kind pc) says other = absurd says
-  complete_mean steps out (Refused refusal) says other = absurd says
-  complete_mean steps out Usage says other = absurd says
-  complete_mean steps out ReadFault says other = absurd says
-  complete_mean steps out OutOfMemory says other = absurd says
+  complete_mean steps out others says other = absurd says
 
   -- ---- the listing
   complete_list : (steps : ℕ) (out : SinkChange) (a : Answer) → ListSays code steps out a → (a ≡ WriteFault → ⊥) → Comes a Listed
   complete_list steps out Listed says other = inl refl
   complete_list steps out WriteFault says other = absurd (other refl)
-  complete_list steps out (Ended status) says other = absurd says
-  complete_list steps out StepsOut says other = absurd says
-  complete_list steps out (Fault kind pc) says other = absurd says
-  complete_list steps out (Undefined line) says other = absurd says
-  complete_list steps out (Refused refusal) says other = absurd says
-  complete_list steps out Usage says other = absurd says
-  complete_list steps out ReadFault says other = absurd says
-  complete_list steps out OutOfMemory says other = absurd says
+  complete_list steps out others says other = absurd says
 
   complete_in : (m : Action) (steps : ℕ) (out : SinkChange) (a : Answer) → ActionSays m c code made.unit steps out a → (a ≡ WriteFault → ⊥) → IsCompleteIn m c code made.unit a
   complete_in action.Run steps out a says other = complete_run steps out a says other
@@ -275,14 +258,7 @@ write_not a texts out tells none is = none (subst (λ x. TellsWrites x out) is t
 none_memory : (words : List (List ℕ)) (a : Answer) → Takes words → NoCommandSays words a → a ≡ OutOfMemory
 none_memory words OutOfMemory takes h = refl
 none_memory words Usage takes h = absurd (none_some (sym h ∙ takes.1))
-none_memory words (Ended s) takes h = absurd h
-none_memory words Listed takes h = absurd h
-none_memory words (Undefined line) takes h = absurd h
-none_memory words (Refused r) takes h = absurd h
-none_memory words ReadFault takes h = absurd h
-none_memory words WriteFault takes h = absurd h
-none_memory words StepsOut takes h = absurd h
-none_memory words (Fault kind pc) takes h = absurd h
+none_memory words other takes h = absurd h
 
 abbrev Answered : List (List ℕ) → TextsChange → Option Assembled → Answer → Type 0
 Answered words texts code a =

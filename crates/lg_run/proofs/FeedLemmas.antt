@@ -31,8 +31,7 @@ use Rattle.lg_run.proofs.X86_64Lemmas as x86
 -- ---- each line has one line feed, at its end
 target_free : (t : Target) → is_free 10 (target_word t) ≡ true
 target_free target.X86_64 = refl
-target_free target.Aarch64 = refl
-target_free target.Riscv64 = refl
+target_free other = refl
 
 text_free : (at : ℕ) (i : Instruction) → is_free 10 (text_of at i) ≡ true
 text_free at (instruction.X86_64 i) = x86.text_free at i

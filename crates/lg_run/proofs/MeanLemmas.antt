@@ -67,7 +67,5 @@ module _ (l : LabelledNodes) (shape : TextShape) (A : List ℕ) (start : State) 
   writes end answer n most line s c is kept says = subst (λ a. TellsWrites a c) (sym is) (at end kept says)
     where
       at : (end : RunEnd) → KeepsCountAfter end c.faults c.faults' → ComesTo meaning end n most s line c.taken c.taken' c.faults c.faults' → TellsWrites (answer_of end) c
-      at (runs_end.Ended status) kept says = kept
-      at (runs_end.Undefined line) kept says = kept
-      at runs_end.StepsOut kept says = kept
       at runs_end.WriteFault kept says = says.1.rose
+      at other kept says = kept

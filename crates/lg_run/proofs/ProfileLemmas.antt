@@ -152,12 +152,7 @@ module _ (c : Command) (held : Option NamedTexts) (code : Assembled) (made : IsC
   all_run most steps out StepsOut says = all_going steps says.1
   all_run most steps out (Fault kind pc) says = all_going steps says.1
   all_run most steps out WriteFault says = all_going steps says.1
-  all_run most steps out Listed says = absurd says
-  all_run most steps out (Undefined line) says = absurd says
-  all_run most steps out (Refused refusal) says = absurd says
-  all_run most steps out Usage says = absurd says
-  all_run most steps out ReadFault says = absurd says
-  all_run most steps out OutOfMemory says = absurd says
+  all_run most steps out other says = absurd says
 
   pub steps_add_up : SpentAddsUp → (top : ℕ) → 0 < top → AreBelow made.unit.nodes.nodes top → (most steps : ℕ) (out : SinkChange) (a : Answer) → RunSays run most steps out a
       → total (spent_at c code made.unit steps) top ≡ steps

@@ -26,72 +26,23 @@ upper_row_free upper_op.Auipc = refl
 
 branch_row_free : (x : BranchOp) → is_free 10 (branch_row x).name ≡ true
 branch_row_free branch_op.Beq = refl
-branch_row_free branch_op.Bne = refl
-branch_row_free branch_op.Blt = refl
-branch_row_free branch_op.Bge = refl
-branch_row_free branch_op.Bltu = refl
-branch_row_free branch_op.Bgeu = refl
+branch_row_free other = refl
 
 imm_row_free : (x : ImmOp) → is_free 10 (imm_row x).name ≡ true
 imm_row_free imm_op.Jalr = refl
-imm_row_free imm_op.Lb = refl
-imm_row_free imm_op.Lh = refl
-imm_row_free imm_op.Lw = refl
-imm_row_free imm_op.Ld = refl
-imm_row_free imm_op.Lbu = refl
-imm_row_free imm_op.Lhu = refl
-imm_row_free imm_op.Lwu = refl
-imm_row_free imm_op.Addi = refl
-imm_row_free imm_op.Slti = refl
-imm_row_free imm_op.Sltiu = refl
-imm_row_free imm_op.Xori = refl
-imm_row_free imm_op.Ori = refl
-imm_row_free imm_op.Andi = refl
-imm_row_free imm_op.Addiw = refl
+imm_row_free other = refl
 
 shift_row_free : (x : ShiftOp) → is_free 10 (shift_row x).name ≡ true
 shift_row_free shift_op.Slli = refl
-shift_row_free shift_op.Srli = refl
-shift_row_free shift_op.Srai = refl
-shift_row_free shift_op.Slliw = refl
-shift_row_free shift_op.Srliw = refl
-shift_row_free shift_op.Sraiw = refl
+shift_row_free other = refl
 
 store_row_free : (x : StoreOp) → is_free 10 (store_row x).name ≡ true
 store_row_free store_op.Sb = refl
-store_row_free store_op.Sh = refl
-store_row_free store_op.Sw = refl
-store_row_free store_op.Sd = refl
+store_row_free other = refl
 
 reg_row_free : (x : RegOp) → is_free 10 (reg_row x).name ≡ true
 reg_row_free reg_op.Add = refl
-reg_row_free reg_op.Sub = refl
-reg_row_free reg_op.Sll = refl
-reg_row_free reg_op.Slt = refl
-reg_row_free reg_op.Sltu = refl
-reg_row_free reg_op.Xor = refl
-reg_row_free reg_op.Srl = refl
-reg_row_free reg_op.Sra = refl
-reg_row_free reg_op.Or = refl
-reg_row_free reg_op.And = refl
-reg_row_free reg_op.Addw = refl
-reg_row_free reg_op.Subw = refl
-reg_row_free reg_op.Sllw = refl
-reg_row_free reg_op.Srlw = refl
-reg_row_free reg_op.Sraw = refl
-reg_row_free reg_op.Mul = refl
-reg_row_free reg_op.Mulh = refl
-reg_row_free reg_op.Mulhsu = refl
-reg_row_free reg_op.Mulhu = refl
-reg_row_free reg_op.Div = refl
-reg_row_free reg_op.Divu = refl
-reg_row_free reg_op.Rem = refl
-reg_row_free reg_op.Remu = refl
-reg_row_free reg_op.Mulw = refl
-reg_row_free reg_op.Divw = refl
-reg_row_free reg_op.Divuw = refl
-reg_row_free reg_op.Remw = refl
-reg_row_free reg_op.Remuw = refl
+reg_row_free other = refl
 
 row_free : (i : Instr) → is_free 10 (row_of i).name ≡ true
 row_free (Upper op rd imm) = upper_row_free op

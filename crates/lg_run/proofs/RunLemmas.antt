@@ -38,13 +38,11 @@ has_run start n k le here =
 -- ---- what the last step says of a run
 ended : (p : Progress) (status : ℕ) → cpu.Ended status ≡ answer_of p → p ≡ EndedWith status
 ended Goes status e = cc
-ended (EndedWith s) status e = cc
-ended (Faulted kind) status e = cc
+ended other status e = cc
 
 faulted : (p : Progress) (kind : FaultKind) → cpu.Fault kind ≡ answer_of p → p ≡ Faulted kind
 faulted Goes kind e = cc
-faulted (EndedWith s) kind e = cc
-faulted (Faulted k) kind e = cc
+faulted other kind e = cc
 
 module _ (start here new : Shown) (n most : ℕ) (out : List ℕ) (s : SinkChange) (b : Option (List ℕ)) (at : IsAt start here n out) (going : here.answer ≡ cpu.Went) (before : Appends s.taken b out) (below : n < most) where
   abbrev e : Effect CpuState

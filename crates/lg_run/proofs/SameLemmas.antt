@@ -23,5 +23,4 @@ answer_same e = cc
 -- a run that has ended as a status says
 pub ends_with : (p : Progress) (s : ℕ) → status_of p ≡ Ended s → p ≡ EndedWith s
 ends_with Goes s e = cc
-ends_with (EndedWith t) s e = cc
-ends_with (Faulted kind) s e = cc
+ends_with other s e = cc

@@ -37,10 +37,8 @@ module _ (law : StepsAreMeans) (l : LabelledNodes) (shape : TextShape) (A : List
   -- what is said of it is said of the meaning
   stuck_there : (end : RunEnd) (n : ℕ) (stuck : Option StuckAt) → ComesTo (mean_from l shape A start) end n most s (line_at l s) c.taken c.taken' c.faults c.faults'
       → StuckWhere (is_undefined (answer_of end)) l shape A s stuck → StuckWhere (is_undefined (answer_of end)) l shape A (mean_from l shape A start n).state stuck
-  stuck_there (runs_end.Ended status) n stuck h told = told
   stuck_there (runs_end.Undefined line) n stuck h told = subst (λ t. (at : StuckAt) × (stuck ≡ Some at) × IsStuck l shape A t at) (sym (ap (λ r. r.state) h.1.stands)) told
-  stuck_there runs_end.StepsOut n stuck h told = told
-  stuck_there runs_end.WriteFault n stuck h told = told
+  stuck_there other n stuck h told = told
 
   pub stuck_told : (end : RunEnd) (answer : Answer) (before after steps : ℕ) (B : List ℕ) (stuck : Option StuckAt) → before ≡ 0 → steps ≡ after → answer ≡ answer_of end → B ≡ A
       → ComesTo (mean_from l shape A start) end (after - before) most s (line_at l s) c.taken c.taken' c.faults c.faults'

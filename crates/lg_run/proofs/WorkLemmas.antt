@@ -56,16 +56,13 @@ module _ (c : Command) (code : Assembled) (unit : TextUnit) (out : SinkChange) (
 -- the answer of a run of code
 pub run_answers : (c : Command) (held : Option NamedTexts) (code : Assembled) (made : IsCodeOf c held code) (out : SinkChange) (steps : ℕ) (a : Answer) → StartSays (action_of c.mode) c code made.unit out steps a
     → AnswerSays c held (Some code) steps out a
-run_answers c held code made out steps (Ended status) h = record { ran = code; is = refl; made = made; says = h }
-run_answers c held code made out steps (Undefined line) h = record { ran = code; is = refl; made = made; says = h }
 run_answers c held code made out steps WriteFault h = inl (record { ran = code; is = refl; made = made; says = h })
-run_answers c held code made out steps StepsOut h = record { ran = code; is = refl; made = made; says = h }
-run_answers c held code made out steps (Fault kind pc) h = record { ran = code; is = refl; made = made; says = h }
 run_answers c held code made out steps OutOfMemory h = (h, made)
 run_answers c held code made out steps Listed h = inl (record { ran = code; is = refl; made = made; says = h })
 run_answers c held code made out steps (Refused refusal) h = absurd (no_refusal c code made.unit out steps (action_of c.mode) refusal h)
 run_answers c held code made out steps Usage h = absurd (no_usage c code made.unit out steps (action_of c.mode) h)
 run_answers c held code made out steps ReadFault h = absurd (no_read c code made.unit out steps (action_of c.mode) h)
+run_answers c held code made out steps other h = record { ran = code; is = refl; made = made; says = h }
 
 -- a call that stops before it runs
 pub record Stops (s : Stop) (a : Answer) : Type 0 where

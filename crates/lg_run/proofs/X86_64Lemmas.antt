@@ -35,66 +35,31 @@ use Rattle.lg_run.proofs.OperandLemmas.{words_free}
 
 rm_reg_row_free : (x : RmRegOp) → is_free 10 (rm_reg_row x).name ≡ true
 rm_reg_row_free rm_reg_op.Add = refl
-rm_reg_row_free rm_reg_op.Or = refl
-rm_reg_row_free rm_reg_op.Adc = refl
-rm_reg_row_free rm_reg_op.Sbb = refl
-rm_reg_row_free rm_reg_op.And = refl
-rm_reg_row_free rm_reg_op.Sub = refl
-rm_reg_row_free rm_reg_op.Xor = refl
-rm_reg_row_free rm_reg_op.Cmp = refl
-rm_reg_row_free rm_reg_op.Test = refl
-rm_reg_row_free rm_reg_op.Mov = refl
+rm_reg_row_free other = refl
 
 imm_row_free : (x : ImmOp) → is_free 10 (imm_row x).name ≡ true
 imm_row_free imm_op.Addi = refl
-imm_row_free imm_op.Ori = refl
-imm_row_free imm_op.Adci = refl
-imm_row_free imm_op.Sbbi = refl
-imm_row_free imm_op.Andi = refl
-imm_row_free imm_op.Subi = refl
-imm_row_free imm_op.Xori = refl
-imm_row_free imm_op.Cmpi = refl
+imm_row_free other = refl
 
 reg_rm_row_free : (x : RegRmOp) → is_free 10 (reg_rm_row x).name ≡ true
 reg_rm_row_free reg_rm_op.Ext32u = refl
-reg_rm_row_free reg_rm_op.Ext32s = refl
-reg_rm_row_free reg_rm_op.Ext8u = refl
-reg_rm_row_free reg_rm_op.Ext16u = refl
-reg_rm_row_free reg_rm_op.Ext8s = refl
-reg_rm_row_free reg_rm_op.Ext16s = refl
-reg_rm_row_free reg_rm_op.Imul = refl
+reg_rm_row_free other = refl
 
 load_row_free : (x : LoadOp) → is_free 10 (load_row x).name ≡ true
 load_row_free load_op.Ld64 = refl
-load_row_free load_op.Ld32u = refl
-load_row_free load_op.Ld32s = refl
-load_row_free load_op.Ld8u = refl
-load_row_free load_op.Ld16u = refl
-load_row_free load_op.Ld8s = refl
-load_row_free load_op.Ld16s = refl
-load_row_free load_op.Lea = refl
+load_row_free other = refl
 
 store_row_free : (x : StoreOp) → is_free 10 (store_row x).name ≡ true
 store_row_free store_op.St64 = refl
-store_row_free store_op.St32 = refl
-store_row_free store_op.St16 = refl
-store_row_free store_op.St8 = refl
+store_row_free other = refl
 
 unary_row_free : (x : UnaryOp) → is_free 10 (unary_row x).name ≡ true
 unary_row_free unary_op.Not = refl
-unary_row_free unary_op.Neg = refl
-unary_row_free unary_op.Mul = refl
-unary_row_free unary_op.Imul1 = refl
-unary_row_free unary_op.Div = refl
-unary_row_free unary_op.Idiv = refl
-unary_row_free unary_op.Shl = refl
-unary_row_free unary_op.Shr = refl
-unary_row_free unary_op.Sar = refl
+unary_row_free other = refl
 
 shift_row_free : (x : ShiftOp) → is_free 10 (shift_row x).name ≡ true
 shift_row_free shift_op.Shli = refl
-shift_row_free shift_op.Shri = refl
-shift_row_free shift_op.Sari = refl
+shift_row_free other = refl
 
 stack_row_free : (x : StackOp) → is_free 10 (stack_row x).name ≡ true
 stack_row_free stack_op.Push = refl
@@ -110,24 +75,11 @@ jump_reg_row_free jump_reg_op.Callr = refl
 
 bare_row_free : (x : BareOp) → is_free 10 (bare_row x).name ≡ true
 bare_row_free bare_op.Cqo = refl
-bare_row_free bare_op.Ret = refl
-bare_row_free bare_op.Nop = refl
+bare_row_free other = refl
 
 cond_row_free : (x : Cond) → is_free 10 (cond_row x).name ≡ true
 cond_row_free cond.Overflow = refl
-cond_row_free cond.NoOverflow = refl
-cond_row_free cond.Below = refl
-cond_row_free cond.AboveOrEqual = refl
-cond_row_free cond.Equal = refl
-cond_row_free cond.NotEqual = refl
-cond_row_free cond.BelowOrEqual = refl
-cond_row_free cond.Above = refl
-cond_row_free cond.Sign = refl
-cond_row_free cond.NoSign = refl
-cond_row_free cond.Less = refl
-cond_row_free cond.GreaterOrEqual = refl
-cond_row_free cond.LessOrEqual = refl
-cond_row_free cond.Greater = refl
+cond_row_free other = refl
 
 around_free : (before middle behind : List ℕ) → is_free 10 before ≡ true → is_free 10 middle ≡ true → is_free 10 behind ≡ true → is_free 10 (before ++ middle ++ behind) ≡ true
 around_free before middle behind a b c = free-append 10 (before ++ middle) behind (free-append 10 before middle a b) c
@@ -138,21 +90,16 @@ named_free (Imm op rm imm) = imm_row_free op
 named_free (RegRm op reg rm) = reg_rm_row_free op
 named_free (Load op reg base disp) = load_row_free op
 named_free (Store op base disp reg) = store_row_free op
-named_free (Lea2 reg base index) = refl
-named_free (Movi32 reg imm) = refl
-named_free (Movs32 rm imm) = refl
-named_free (Movi64 reg imm) = refl
 named_free (Unary op rm) = unary_row_free op
 named_free (Shift op rm count) = shift_row_free op
-named_free (Bswap reg) = refl
 named_free (Stack op reg) = stack_row_free op
 named_free (JumpIfShort cond distance) = around_free jump_if_short_row.before (cond_row cond).name jump_if_short_row.behind refl (cond_row_free cond) refl
 named_free (JumpIfNear cond distance) = around_free jump_if_near_row.before (cond_row cond).name jump_if_near_row.behind refl (cond_row_free cond) refl
 named_free (Set cond rm) = around_free set_row.before (cond_row cond).name set_row.behind refl (cond_row_free cond) refl
-named_free (JumpShort distance) = refl
 named_free (JumpNear op distance) = jump_near_row_free op
 named_free (JumpReg op rm) = jump_reg_row_free op
 named_free (Bare op) = bare_row_free op
+named_free other = refl
 
 pub text_free : (at : ℕ) (i : Instr) → is_free 10 (text_of at i) ≡ true
 text_free at i = words_free (name_of i) (operands at i) (named_free i)

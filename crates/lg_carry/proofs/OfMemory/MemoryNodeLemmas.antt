@@ -183,11 +183,8 @@ module _ {Q I : Type 0} (R : Rows Q I) (scratch : ℕ → Bool) (fits : I → Ty
       numbered-none (λ s at. stepped c i n s x at ∙ ap (λ z. need (sum z (reg s b)) (λ y. need (reg s d) (λ u. store_to s t y u))) (gives c.addresses s)) x is-frame k
     where
       address-is : (v : Operand) (b : Reg) → ((r : Reg) → v ≢ operand.Reg r) → address_of addressing.RegisterImmediate v (operand.Reg b) ≡ Index b (number v)
-      address-is (operand.Number k) b g = refl
-      address-is (operand.Host name) b g = refl
-      address-is (operand.Label l) b g = refl
-      address-is (operand.Slot k) b g = refl
       address-is (operand.Reg r) b g = absurd (g r refl)
+      address-is other b g = refl
 
   store-law : (at : Addressing) (xs : List Operand) → admit (store_forms at) xs ≡ true → list_any is_label xs ≡ false → Stores at xs
   store-law addressing.Register xs e none =

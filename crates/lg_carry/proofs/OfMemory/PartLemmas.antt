@@ -56,13 +56,11 @@ part-loaded m a v t small e =
 
 -- a type reads no more
 pub typed-part : (t : ValueType) (v : ℕ) → v < 2 ^ 64 → extended_by_type t (v % 256 ^ width t) ≡ extended_by_type t v
-typed-part value_type.Char v lt = grind arith
 typed-part value_type.UnsignedChar v lt = omega arith
-typed-part value_type.Short v lt = grind arith
 typed-part value_type.UnsignedShort v lt = omega arith
-typed-part value_type.Int v lt = grind arith
 typed-part value_type.UnsignedInt v lt = omega arith
 typed-part value_type.Long v lt = omega (arith, lt)
+typed-part other v lt = grind arith
 
 pub part-less : (v : ℕ) (t : ValueType) → v % 256 ^ width t < 256 ^ width t
 part-less v value_type.Char = omega arith

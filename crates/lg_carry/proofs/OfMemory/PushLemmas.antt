@@ -450,12 +450,10 @@ record StartsGiven (xs : List Operand) (last : LastOperand) : Type 0 where
 starts-given : (xs : List Operand) (last : LastOperand) → admit (forms_of (op.Control control.Pusharg last)) xs ≡ true → StartsGiven xs last
 starts-given xs last_operand.Register e =
     let a = starts-read [] xs e in record { operand-is = operand.Reg a.register; is = a.is ∙ ap (λ ys. operand.Reg a.register ∷ ys) (nothing-left a.rest a.admitted); slots = λ k z. cc; reads = λ b z. refl }
-starts-given [] last_operand.Immediate e = cc
 starts-given (operand.Number v ∷ xs) last_operand.Immediate e = record { operand-is = operand.Number v; is = ap (λ ys. operand.Number v ∷ ys) (nothing-left xs e); slots = λ k z. cc; reads = λ b z. cc }
 starts-given (operand.Host name ∷ xs) last_operand.Immediate e = record { operand-is = operand.Host name; is = ap (λ ys. operand.Host name ∷ ys) (nothing-left xs e); slots = λ k z. cc; reads = λ b z. cc }
 starts-given (operand.Label l ∷ xs) last_operand.Immediate e = record { operand-is = operand.Label l; is = ap (λ ys. operand.Label l ∷ ys) (nothing-left xs e); slots = λ k z. cc; reads = λ b z. cc }
-starts-given (operand.Reg r ∷ xs) last_operand.Immediate e = cc
-starts-given (operand.Slot k ∷ xs) last_operand.Immediate e = cc
+starts-given other last_operand.Immediate e = cc
 
 abbrev IsCarried : {Q I : Type 0} → Rows Q I → (I → Type 0) → PushCode I → Code → ℕ → ℕ → (ℕ → Bool) → Node → Type 0
 IsCarried R fits code c i frame S m =

@@ -52,9 +52,7 @@ host-small _ = omega arith
 pub number-small : (x : Operand) → ((v : ℕ) → x ≡ operand.Number v → v < 2 ^ 64) → number x < 2 ^ 64
 number-small (operand.Number v) h = h v refl
 number-small (operand.Host name) h = host-small name
-number-small (operand.Reg r) h = omega arith
-number-small (operand.Label l) h = omega arith
-number-small (operand.Slot k) h = omega arith
+number-small other h = omega arith
 
 -- ---- the node
 -- a node is its operation, its operands and its line

@@ -154,10 +154,8 @@ module _ {Q I : Type 0} (R : Rows Q I) (fits : I → Type 0) (code : ℕ → ℕ
       (ap (λ x. step_at (text c.nodes c.shape c.addresses) x s) (ap (slice_get c.nodes.nodes) at ∙ t.here) ∙ ap (λ o. call_node_step (text c.nodes c.shape c.addresses) s [] (node_in o)) target-is.place)
     where
       saved : (v : ℕ) → v < 3 → numbered (is_written (call_node l line)) (v + 3) ≡ false
-      saved zero lt = refl
-      saved (suc zero) lt = refl
-      saved (suc (suc zero)) lt = refl
       saved (suc (suc (suc v))) lt = absurd (omega (arith, lt))
+      saved other lt = refl
 
   pub finishes-carry : FinishesCarry R fits code
   finishes-carry c i l line S w t size is-frame k live s returns out q at st =
@@ -167,7 +165,5 @@ module _ {Q I : Type 0} (R : Rows Q I) (fits : I → Type 0) (code : ℕ → ℕ
       (ap (λ x. step_at (text c.nodes c.shape c.addresses) x s) (ap (slice_get c.nodes.nodes) at ∙ t.here) ∙ ap (λ o. call_node_step (text c.nodes c.shape c.addresses) s s.pushed (node_in o)) target-is.place)
     where
       saved : (v : ℕ) → v < 3 → numbered (is_written (finish_node l line)) (v + 3) ≡ false
-      saved zero lt = refl
-      saved (suc zero) lt = refl
-      saved (suc (suc zero)) lt = refl
       saved (suc (suc (suc v))) lt = absurd (omega (arith, lt))
+      saved other lt = refl

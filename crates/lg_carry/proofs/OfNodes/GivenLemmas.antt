@@ -18,9 +18,7 @@ module _ (addresses : List ℕ) (low : (label : ℕ) → slice_index addresses l
   is-word : (x : Operand) → HasWord x → IsWord addresses x
   is-word (operand.Number v) word = word
   is-word (operand.Label l) word = low l.0
-  is-word (operand.Reg r) word = tt
-  is-word (operand.Host name) word = tt
-  is-word (operand.Slot k) word = tt
+  is-word other word = tt
 
   pub are-words : (xs : List Operand) → HaveWords xs → AreWords addresses xs
   are-words [] words = tt

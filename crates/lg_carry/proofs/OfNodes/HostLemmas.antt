@@ -96,10 +96,9 @@ small _ = omega arith
 
 -- ---- the registers that a call keeps
 kept-saved : (target : Target) (v : ℕ) → v < 3 → is_kept target (portable_register target (v + 3)) ≡ true
-kept-saved target (suc (suc (suc v))) lt = absurd (omega (arith, lt))
 kept-saved X86_64 _ lt = refl
-kept-saved Aarch64 _ lt = refl
-kept-saved Riscv64 _ lt = refl
+kept-saved target (suc (suc (suc v))) lt = absurd (omega (arith, lt))
+kept-saved other _ lt = refl
 
 kept-frame : (target : Target) → is_kept target (frame_register target) ≡ true
 kept-frame X86_64 = refl
@@ -312,10 +311,8 @@ module _ {Q I : Type 0} (R : Rows Q I) (ready : HostName → (ℕ → ℕ) → B
       (ap (λ x. step_at (text c.nodes c.shape c.addresses) x s) (ap (slice_get c.nodes.nodes) at ∙ t.here))
     where
       saved : (v : ℕ) → v < 3 → numbered (is_written (host_call_node name line)) (v + 3) ≡ false
-      saved zero lt = refl
-      saved (suc zero) lt = refl
-      saved (suc (suc zero)) lt = refl
       saved (suc (suc (suc v))) lt = absurd (omega (arith, lt))
+      saved other lt = refl
 
   pub host-finishes-carry : HostFinishesCarry R fits code
   host-finishes-carry c i name line S w t size is-frame k live s returns out q at st =
@@ -327,7 +324,5 @@ module _ {Q I : Type 0} (R : Rows Q I) (ready : HostName → (ℕ → ℕ) → B
       (ap (λ x. step_at (text c.nodes c.shape c.addresses) x s) (ap (slice_get c.nodes.nodes) at ∙ t.here))
     where
       saved : (v : ℕ) → v < 3 → numbered (is_written (host_finish_node name line)) (v + 3) ≡ false
-      saved zero lt = refl
-      saved (suc zero) lt = refl
-      saved (suc (suc zero)) lt = refl
       saved (suc (suc (suc v))) lt = absurd (omega (arith, lt))
+      saved other lt = refl

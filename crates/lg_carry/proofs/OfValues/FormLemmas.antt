@@ -20,19 +20,12 @@ pub record IsSource (x : Operand) : Type 0 where
   pub is : x ≡ operand.Reg register
 
 pub is-target : (x : Operand) → admits Write x ≡ true → IsTarget x
-is-target (operand.Reg Fp) h = cc
 is-target (operand.Reg r) h = record { register = r; is = refl; named = λ e. cc }
-is-target (operand.Number v) h = cc
-is-target (operand.Label l) h = cc
-is-target (operand.Host name) h = cc
-is-target (operand.Slot k) h = cc
+is-target other h = cc
 
 pub is-source : (x : Operand) → admits Read x ≡ true → IsSource x
 is-source (operand.Reg r) h = record { register = r; is = refl }
-is-source (operand.Number v) h = cc
-is-source (operand.Label l) h = cc
-is-source (operand.Host name) h = cc
-is-source (operand.Slot k) h = cc
+is-source other h = cc
 
 -- how many arguments have names
 pub record IsCount (x : Operand) : Type 0 where
@@ -41,10 +34,7 @@ pub record IsCount (x : Operand) : Type 0 where
 
 pub is-count : (x : Operand) → admits ArgumentCount x ≡ true → IsCount x
 is-count (operand.Number k) h = record { count = k; is = refl }
-is-count (operand.Reg r) h = cc
-is-count (operand.Label l) h = cc
-is-count (operand.Host name) h = cc
-is-count (operand.Slot s) h = cc
+is-count other h = cc
 
 -- the operands of this many forms
 pub record OneOperand (f : Form) (xs : List Operand) : Type 0 where

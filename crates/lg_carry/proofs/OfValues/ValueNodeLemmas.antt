@@ -23,12 +23,7 @@ use Rattle.lg_carry.proofs.OfValues.FormLemmas.{is-target, is-source, is-count, 
 -- a type extends a word as its operation does
 pub extends : TypesExtend
 extends value_type.Char x = refl
-extends value_type.UnsignedChar x = refl
-extends value_type.Short x = refl
-extends value_type.UnsignedShort x = refl
-extends value_type.Int x = refl
-extends value_type.UnsignedInt x = refl
-extends value_type.Long x = refl
+extends other x = refl
 
 module _ (IsCarried : Node → Type 0)
     (binary : (o : BinaryOp) (last : LastOperand) (d a : Reg) (x : Operand) (line : ℕ) → d ≢ Fp → admits (last_form last) x ≡ true
