@@ -42,8 +42,9 @@ off-more false c h e = refl
 -- a node whose way sinks is no return
 sink-no-rise : (o : Op) → (is_prolog o || is_call o) ≡ true → is_return o ≡ true → ⊥
 sink-no-rise (op.Control control.Ret last) h k = cc
+sink-no-rise (op.Plain plain.Ret) h k = cc
+sink-no-rise (op.Plain plain.Epilog) h k = cc
 sink-no-rise o h k = cc
-sink-no-rise other h k = cc
 
 sinks-no-rise : (o : Option Node) → sinks_at o ≡ true → rises_at o ≡ true → ⊥
 sinks-no-rise None h k = cc

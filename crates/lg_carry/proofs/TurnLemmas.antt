@@ -35,8 +35,15 @@ pub record IsStill (target : Target) (o : Op) : Type 0 where
 
 pub still : (target : Target) (o : Op) → leaps o ≡ false → is_prolog o ≡ false → IsStill target o
 still target (op.Branch c last) h k = cc
+still target (op.BranchSum x last) h k = cc
+still target (op.Control control.Jmp last) h k = cc
+still target (op.Control control.Call last) h k = cc
+still target (op.Control control.Finish last) h k = cc
+still target (op.Control control.Ret last) h k = cc
+still target (op.Plain plain.Ret) h k = cc
+still target (op.Plain plain.Epilog) h k = cc
+still target (op.Plain plain.Prolog) h k = cc
 still target o h k = record { moves = refl; sinks = refl; rises = refl }
-still target other h k = cc
 
 pub still-inside : (target : Target) (o : Op) → stands_inside o ≡ true → leaps o ≡ false → IsStill target o
 still-inside target o h k = still target o k (no-prolog o h)
@@ -81,13 +88,15 @@ call-moves target o h = cc
 -- a return moves it, and does not sink
 pub return-moves : (target : Target) (o : Op) → is_return o ≡ true → moves_stack target o ≡ true
 return-moves target (op.Control control.Ret last) h = refl
+return-moves target (op.Plain plain.Ret) h = refl
+return-moves target (op.Plain plain.Epilog) h = refl
 return-moves target o h = cc
-return-moves target other h = refl
 
 pub return-no-sink : (o : Op) → is_return o ≡ true → (is_prolog o || is_call o) ≡ false
 return-no-sink (op.Control control.Ret last) h = refl
+return-no-sink (op.Plain plain.Ret) h = refl
+return-no-sink (op.Plain plain.Epilog) h = refl
 return-no-sink o h = cc
-return-no-sink other h = refl
 
 -- ---- instructions
 same-le : (m n : ℕ) → m ≡ n → m ≤ n

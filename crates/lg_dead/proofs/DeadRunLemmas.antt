@@ -52,18 +52,33 @@ use Rattle.lg_dead.proofs.Follows.{Follows}
 -- ---- definitions
 goes-by-defining : (o : Op) → defines o ≡ true → may_go o ≡ true
 goes-by-defining (op.Binary b last) e = refl
+goes-by-defining (op.Wide b last) e = refl
+goes-by-defining (op.Unary b) e = refl
+goes-by-defining (op.Plain plain.Movi) e = refl
+goes-by-defining (op.Load v at) e = refl
+goes-by-defining (op.Retval v) e = refl
+goes-by-defining (op.Getarg v) e = refl
 goes-by-defining o e = cc
-goes-by-defining other e = refl
 
 pub falls-by-defining : (o : Op) → defines o ≡ true → leaps o ≡ false
 falls-by-defining (op.Binary b last) e = refl
+falls-by-defining (op.Wide b last) e = refl
+falls-by-defining (op.Unary b) e = refl
+falls-by-defining (op.Plain plain.Movi) e = refl
+falls-by-defining (op.Load v at) e = refl
+falls-by-defining (op.Retval v) e = refl
+falls-by-defining (op.Getarg v) e = refl
 falls-by-defining o e = cc
-falls-by-defining other e = refl
 
 pub next-by-defining : (o : Op) → defines o ≡ true → way_of o ≡ Next
 next-by-defining (op.Binary b last) e = refl
+next-by-defining (op.Wide b last) e = refl
+next-by-defining (op.Unary b) e = refl
+next-by-defining (op.Plain plain.Movi) e = refl
+next-by-defining (op.Load v at) e = refl
+next-by-defining (op.Retval v) e = refl
+next-by-defining (op.Getarg v) e = refl
 next-by-defining o e = cc
-next-by-defining other e = refl
 
 -- what a definition makes of a state
 record Defined (s u : State) : Type 0 where

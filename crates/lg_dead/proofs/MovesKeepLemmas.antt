@@ -145,8 +145,13 @@ unnamed-fp a (f ∷ fs) (x ∷ xs) = ap (λ b. b || (is_for a f && is_register F
   where
     never : (x : Operand) → is_register Fp x ≡ false
     never (operand.Reg R0) = refl
+    never (operand.Reg R1) = refl
+    never (operand.Reg R2) = refl
+    never (operand.Reg V0) = refl
+    never (operand.Reg V1) = refl
+    never (operand.Reg V2) = refl
+    never (operand.Reg Fp) = refl
     never x = refl
-    never other = refl
 
     by : (b : Bool) → (false || (b && false)) ≡ false
     by true = refl

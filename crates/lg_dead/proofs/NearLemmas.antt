@@ -117,8 +117,9 @@ word-written f g d v q h = h refl
 
 word-kept : (f g : ℕ → Option ℕ) (q : Reg) → (is_kept q ≡ true → Holds (word_of f q) (word_of g q)) → Holds (word_of (kept f) q) (word_of (kept g) q)
 word-kept f g V0 h = h refl
+word-kept f g V1 h = h refl
+word-kept f g V2 h = h refl
 word-kept f g _ h = inl refl
-word-kept f g other h = h refl
 
 no-word : (g : ℕ → Option ℕ) (q : Reg) → Holds (word_of (λ r. None) q) (word_of g q)
 no-word g R0 = inl refl
@@ -126,8 +127,9 @@ no-word g _ = inl refl
 
 small : (q : Reg) → is_kept q ≡ true → nat_lt (number_of q) 3 ≡ false
 small V0 e = refl
+small V1 e = refl
+small V2 e = refl
 small q e = cc
-small other e = refl
 
 pub and-false : (b : Bool) → (b && false) ≡ false
 and-false true = refl

@@ -36,17 +36,21 @@ calls-next (op.Control o last) e = absurd (cc)
 calls-next o e = absurd (cc)
 
 call-writes : (o : Op) → is_call o ≡ true → (xs : List Operand) (r : Reg) → names access.Write (forms_of o) xs r ≡ false
+call-writes (op.Control control.Call last_operand.Register) e [] r = refl
 call-writes (op.Control control.Call last_operand.Register) e (x ∷ xs) r = refl
+call-writes (op.Control control.Call last_operand.Immediate) e [] r = refl
 call-writes (op.Control control.Call last_operand.Immediate) e (x ∷ xs) r = refl
+call-writes (op.Control control.Finish last_operand.Register) e [] r = refl
 call-writes (op.Control control.Finish last_operand.Register) e (x ∷ xs) r = refl
+call-writes (op.Control control.Finish last_operand.Immediate) e [] r = refl
 call-writes (op.Control control.Finish last_operand.Immediate) e (x ∷ xs) r = refl
 call-writes o e xs r = absurd (cc)
-call-writes other e [] r = refl
 
 not-small : (r : Reg) → is_kept r ≡ true → nat_lt (number_of r) 3 ≡ false
 not-small V0 e = refl
+not-small V1 e = refl
+not-small V2 e = refl
 not-small r e = cc
-not-small other e = refl
 
 -- a return goes to the node of return
 returns-back : (t : Text) (n : Node) (s : State) (o : Op) → is_return o ≡ true → OnGoes (λ u. u.at ≡ s.frame.back) (node_step t n o s)

@@ -50,9 +50,14 @@ use Rattle.lg_dead.proofs.KnownKeepLemmas.{tracked, can-less, label-kept}
 use Rattle.lg_dead.proofs.DeadRunLemmas.{falls-by-defining}
 
 pub falls-next : (o : Op) → leaps o ≡ false → way_of o ≡ Next
+falls-next (op.Branch c last) e = cc
+falls-next (op.BranchSum c last) e = cc
+falls-next (op.Control control.Jmp last) e = cc
+falls-next (op.Control control.Ret last) e = cc
+falls-next (op.Plain plain.Ret) e = cc
+falls-next (op.Plain plain.Epilog) e = cc
 falls-next (op.Control control.Pusharg last) e = refl
 falls-next o e = refl
-falls-next other e = cc
 
 -- ---- definitions that are not needed
 module _ (l : LabelledNodes) (shape : TextShape) (keep : ℕ → Bool) (needs : ℕ → Reg → Bool) (are : AreNeeds l shape keep needs) (formed : All InForm l.nodes) (none : HasNoFolds l) where
@@ -262,13 +267,15 @@ moves-keep l a formed none = moves-keep-at l a formed none
 -- ---- threaded jumps
 no-leap : (o : Op) → leaps o ≡ false → has_target o ≡ false
 no-leap (op.Branch c last) e = cc
+no-leap (op.BranchSum x last) e = cc
+no-leap (op.Control control.Jmp last) e = cc
 no-leap o e = refl
-no-leap other e = cc
 
 made-none : (known : Reg → Option ℕ) (o : Op) (xs : List Operand) → has_target o ≡ true → made known o xs ≡ None
 made-none known (op.Branch c last) xs e = refl
+made-none known (op.BranchSum c last) xs e = refl
+made-none known (op.Control control.Jmp last) xs e = refl
 made-none known o xs e = cc
-made-none known other xs e = refl
 
 last-same : (known : Reg → Option ℕ) (o : Op) (xs : List Operand) (y : Label) → has_target o ≡ true → last_known known o (with_first xs y) ≡ last_known known o xs
 last-same known (op.Branch c last) [] y e = refl
@@ -284,8 +291,10 @@ last-same known (op.Branch c last_operand.Register) (p ∷ q ∷ operand.Number 
 last-same known (op.Branch c last_operand.Register) (p ∷ q ∷ operand.Label r ∷ w ∷ xs) y e = refl
 last-same known (op.Branch c last_operand.Register) (p ∷ q ∷ operand.Host r ∷ w ∷ xs) y e = refl
 last-same known (op.Branch c last_operand.Register) (p ∷ q ∷ operand.Slot r ∷ w ∷ xs) y e = refl
+last-same known (op.Branch c last_operand.Immediate) xs y e = refl
+last-same known (op.BranchSum c last) xs y e = refl
+last-same known (op.Control control.Jmp last) xs y e = refl
 last-same known o xs y e = cc
-last-same known other xs y e = refl
 
 module _ (l : LabelledNodes) (targets : ℕ → Option Label) (a : IsAccepted l) (formed : All InForm l.nodes) (are : AreTargets l targets) (none : HasNoFolds l) where
   can-same : (known : Reg → Option ℕ) (i : ℕ) (n : Node) → slice_get l.nodes i ≡ Some n → can_be_folded known (retargeted (targets i) n) ≡ can_be_folded known n

@@ -76,13 +76,24 @@ jump-way o e = cc
 
 way-jumps : (o : Op) → way_of o ≡ Jump → is_jump o ≡ true
 way-jumps (op.Control control.Jmp last_operand.Immediate) e = refl
+way-jumps (op.Control control.Jmp last_operand.Register) e = cc
+way-jumps (op.Control control.Call last) e = cc
+way-jumps (op.Control control.Finish last) e = cc
+way-jumps (op.Control control.Pusharg last) e = cc
+way-jumps (op.Control control.Ret last) e = cc
+way-jumps (op.Plain plain.Ret) e = cc
+way-jumps (op.Plain plain.Epilog) e = cc
 way-jumps o e = cc
-way-jumps other e = cc
 
 no-target-defines : (o : Op) → defines o ≡ true → has_target o ≡ false
 no-target-defines (op.Binary b last) e = refl
+no-target-defines (op.Wide b last) e = refl
+no-target-defines (op.Unary b) e = refl
+no-target-defines (op.Plain plain.Movi) e = refl
+no-target-defines (op.Load v at) e = refl
+no-target-defines (op.Retval v) e = refl
+no-target-defines (op.Getarg v) e = refl
 no-target-defines o e = cc
-no-target-defines other e = refl
 
 live-inside : (l : LabelledNodes) (s : TextShape) (r : Reg) (i : ℕ) → IsLive l s r i → i < length l.nodes
 live-inside l s r i (live.read_here j n e f) = slice_get_within l.nodes i n e

@@ -89,6 +89,16 @@ binary_word binary.Mul a b v h k e = word_of _ v e (low_word (a * b))
 binary_word binary.And a b v h k e = word_of _ v e (let le : bit_and a b ≤ a = and_le_l a b in omega (arith, le, h))
 binary_word binary.Or a b v h k e = word_of _ v e (or_lt 64 a b h k)
 binary_word binary.Xor a b v h k e = word_of _ v e (xor_lt 64 a b h k)
+binary_word binary.Lt a b v h k e = word_of _ v e (test_word _)
+binary_word binary.LtU a b v h k e = word_of _ v e (test_word _)
+binary_word binary.Le a b v h k e = word_of _ v e (test_word _)
+binary_word binary.LeU a b v h k e = word_of _ v e (test_word _)
+binary_word binary.Ge a b v h k e = word_of _ v e (test_word _)
+binary_word binary.GeU a b v h k e = word_of _ v e (test_word _)
+binary_word binary.Gt a b v h k e = word_of _ v e (test_word _)
+binary_word binary.GtU a b v h k e = word_of _ v e (test_word _)
+binary_word binary.Eq a b v h k e = word_of _ v e (test_word _)
+binary_word binary.Ne a b v h k e = word_of _ v e (test_word _)
 binary_word binary.Lsh a b v h k e = word_of _ v e (low_word (a * 2 ^ (b % 64)))
 binary_word binary.Rsh a b v h k e = word_of _ v e (shifted_signed_word a (b % 64) h)
 binary_word binary.RshU a b v h k e = word_of _ v e (quotient_word a (2 ^ (b % 64)) h)
@@ -97,13 +107,14 @@ binary_word binary.DivU a b v h k e = word_where_of _ _ v e (quotient_word a b h
 binary_word binary.Rem a b v h k e = word_where_of _ _ v e (remainder_signed_word a b h)
 binary_word binary.RemU a b v h k e = word_where_of _ _ v e (remainder_word a b h)
 binary_word o a b v h k e = absurd (none-some v e)
-binary_word other a b v h k e = word_of _ v e (test_word _)
 
 -- an operation with a value sets no carry
 not_carried : (o : BinaryOp) (a b v : ℕ) → binary_value o a b ≡ Some v → sets_carry o ≡ false
 not_carried binary.Addc a b v e = absurd (none-some v e)
+not_carried binary.Subc a b v e = absurd (none-some v e)
+not_carried binary.Addx a b v e = absurd (none-some v e)
+not_carried binary.Subx a b v e = absurd (none-some v e)
 not_carried o a b v e = refl
-not_carried other a b v e = absurd (none-some v e)
 
 -- ---- the frame
 

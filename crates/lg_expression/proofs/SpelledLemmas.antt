@@ -22,13 +22,17 @@ at steps waiting next = record { steps = steps; waiting = waiting; next = next }
 
 pub least_closeness : (o : BinaryOp) → 1 ≤ closeness o
 least_closeness Mul = omega arith
+least_closeness Div = omega arith
+least_closeness Add = omega arith
+least_closeness Sub = omega arith
 least_closeness o = omega arith
-least_closeness other = omega arith
 
 pub most_closeness : (o : BinaryOp) → closeness o ≤ 3
 most_closeness Mul = omega arith
+most_closeness Div = omega arith
+most_closeness Add = omega arith
+most_closeness Sub = omega arith
 most_closeness o = omega arith
-most_closeness other = omega arith
 
 -- what waits takes no text of this level for its own
 abbrev pub fits : ℕ → List Waiting → Bool

@@ -49,15 +49,20 @@ pub record AtNode (l : LabelledNodes) (shape : TextShape) (s : State) (n : Node)
 -- the operations that change what is being prepared
 abbrev pub prepares : Op → Bool
 prepares (op.Plain plain.Prepare) = true
+prepares (op.Plain plain.Ellipsis) = true
+prepares (op.Control control.Pusharg last) = true
+prepares (op.Control control.Finish last) = true
 prepares o = false
-prepares other = true
 
 pub still : (c : Option Preparation) (o : Op) → prepares o ≡ false → prepared_after c o ≡ c
 still None (op.Plain plain.Prepare) e = cc
 still None (op.Control control.Finish last) e = refl
 still None o e = refl
+still (Some call) (op.Plain plain.Prepare) e = cc
+still (Some call) (op.Plain plain.Ellipsis) e = cc
+still (Some call) (op.Control control.Pusharg last) e = cc
+still (Some call) (op.Control control.Finish last) e = cc
 still (Some call) o e = refl
-still (Some call) other e = cc
 
 -- ---- operands
 -- a label is where a target is to stand

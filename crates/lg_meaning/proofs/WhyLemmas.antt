@@ -86,13 +86,18 @@ module _ (s : State) (d : Operand) where
   quotient_why binary.Rem a b e = divided ((b == 0) || is_least_by_minus_one a b) _ (NoQuotient a b)
   quotient_why binary.DivU a b e = divided (b == 0) _ (NoQuotient a b)
   quotient_why binary.RemU a b e = divided (b == 0) _ (NoQuotient a b)
+  quotient_why binary.Addc a b e = cc
+  quotient_why binary.Subc a b e = cc
+  quotient_why binary.Addx a b e = cc
+  quotient_why binary.Subx a b e = cc
   quotient_why o a b e = refl
-  quotient_why other a b e = cc
 
 carried_divides : (o : BinaryOp) (a b : ℕ) → sets_carry o ≡ true → cannot_divide o a b ≡ false
 carried_divides binary.Div a b e = cc
+carried_divides binary.Rem a b e = cc
+carried_divides binary.DivU a b e = cc
+carried_divides binary.RemU a b e = cc
 carried_divides o a b e = refl
-carried_divides other a b e = cc
 
 carry_why : (k : Option Bool) (f : Bool → State) → IsWhy (need k (λ bit. quiet (f bit))) (first (where_so (is_none k) NoCarry ∷ None ∷ none_8))
 carry_why None f = refl

@@ -70,13 +70,20 @@ next_way op e = refl
 either_way : (op : Op) → way_of op ≡ Either → (is_epilog op ≡ false) × (has_target op ≡ true)
 either_way (Branch condition last) e = (refl, refl)
 either_way (BranchSum sum last) e = (refl, refl)
+either_way (Control control.Jmp last_operand.Immediate) e = absurd (cc)
+either_way (Control control.Jmp last_operand.Register) e = absurd (cc)
+either_way (Control control.Ret last) e = absurd (cc)
+either_way (Plain plain.Ret) e = absurd (cc)
+either_way (Plain plain.Epilog) e = absurd (cc)
 either_way op e = absurd (cc)
-either_way other e = absurd (cc)
 
 jump_way : (op : Op) → way_of op ≡ Jump → has_target op ≡ true
 jump_way (Control control.Jmp last_operand.Immediate) e = refl
+jump_way (Control control.Jmp last_operand.Register) e = cc
+jump_way (Control control.Ret last) e = cc
+jump_way (Plain plain.Ret) e = cc
+jump_way (Plain plain.Epilog) e = cc
 jump_way op e = cc
-jump_way other e = cc
 
 -- the label of a target
 target_label : (places : List (Option Place)) (operands : List Operand) (o : Place) → target_of places operands ≡ Some o → (x : Label) × (xs : List Operand) × (operands ≡ operand.Label x ∷ xs) × (place_of places x ≡ Some o)

@@ -96,9 +96,10 @@ small _ = omega arith
 
 -- ---- the registers that a call keeps
 kept-saved : (target : Target) (v : ℕ) → v < 3 → is_kept target (portable_register target (v + 3)) ≡ true
-kept-saved X86_64 _ lt = refl
 kept-saved target (suc (suc (suc v))) lt = absurd (omega (arith, lt))
-kept-saved other _ lt = refl
+kept-saved X86_64 _ lt = refl
+kept-saved Aarch64 _ lt = refl
+kept-saved Riscv64 _ lt = refl
 
 kept-frame : (target : Target) → is_kept target (frame_register target) ≡ true
 kept-frame X86_64 = refl

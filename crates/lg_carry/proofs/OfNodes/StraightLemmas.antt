@@ -85,11 +85,15 @@ pub text-keeps : (c : Code) (i : ℕ) (n : Node) → IsInText c i n → (s t : S
 text-keeps c i n t s u bytes at low high fits goes = (steps_fit c.nodes c.shape c.addresses s u bytes t.shape t.well t.functions (subst (IsFormedAt c.nodes) (sym at) t.formed) record { fits = fits; heap = record { low = low; high = high } } goes).fits
 
 pub no-return : (o : Op) → leaps o ≡ false → is_return o ≡ false
+no-return (op.Control control.Jmp last) h = refl
+no-return (op.Control control.Call last) h = refl
+no-return (op.Control control.Finish last) h = refl
+no-return (op.Control control.Pusharg last) h = refl
 no-return (op.Control control.Ret last) h = cc
 no-return (op.Plain plain.Ret) h = cc
 no-return (op.Plain plain.Epilog) h = cc
+no-return (op.Plain o) h = refl
 no-return o h = refl
-no-return other h = refl
 
 pub no-epilog : (o : Op) → leaps o ≡ false → is_epilog o ≡ false
 no-epilog (op.Plain plain.Epilog) h = cc
