@@ -136,7 +136,8 @@ places-kept (p ∷ ps) = ap (λ q. q ∷ map (moved_place (λ k. k)) ps) (one p)
   where
     one : (p : Option Place) → moved_place (λ k. k) p ≡ p
     one None = refl
-    one other = refl
+    one (Some (place.Node k)) = refl
+    one (Some (place.Image k)) = refl
 
 -- a whole list
 pub folded-to : (l m : LabelledNodes) (ns : List Node) → AreFolded l ns (length l.nodes) → m ≡ record l { nodes = ns } → IsFoldedTo l m

@@ -300,7 +300,7 @@ module _ (l : LabelledNodes) (shape new_shape : TextShape) (is : IsShapeOf l sha
     where
       itself : (r : Reg) → is_equal r r ≡ true
       itself R0 = refl
-      itself other = refl
+      itself it = refl
 
   module _ (i k : ℕ) (n : Node) (e : slice_get l.nodes i ≡ Some n) (c : IsSuccessor l shape i k) where
     -- after a move that stays

@@ -168,11 +168,14 @@ module _ (l : LabelledNodes) (shape : TextShape) (s : State) (n : Node) (is : Is
   comes_of (op.Control control.Call last) e k = call_comes (ap way_of e) last []
   comes_of (op.Control control.Finish last) e k = call_comes (ap way_of e) last s.pushed
   comes_of (op.Control control.Pusharg last) e k = onward (ap way_of e) (push_step A n s) (need_on IsOnward (value A s (operand_at n 0)) _ (λ v h. refl))
+  comes_of (op.Control control.Ret last) e k = absurd (cc)
   comes_of (op.Unary a) e k = falls_onward (ap way_of e) (unary_step A n a s) (unary_falls s A n a)
   comes_of (op.Plain plain.Movi) e k = falls_onward (ap way_of e) (movi_step A n s) (movi_falls s A n)
   comes_of (op.Plain plain.Prepare) e k = onward (ap way_of e) (prepare_step s) refl
   comes_of (op.Plain plain.Ellipsis) e k = onward (ap way_of e) (ellipsis_step s) refl
   comes_of (op.Plain plain.Prolog) e k = onward (ap way_of e) (prolog_step (text l shape A) s) (need_on IsOnward (function_here shape.functions s.at) _ (λ f h. refl))
+  comes_of (op.Plain plain.Epilog) e k = absurd (cc)
+  comes_of (op.Plain plain.Ret) e k = absurd (cc)
   comes_of (op.Plain plain.VaStart) e k = falls_onward (ap way_of e) (va_start_step A n s) (va_start_falls s A n)
   comes_of (op.Plain plain.VaArg) e k = falls_onward (ap way_of e) (va_arg_step A n s) (va_arg_falls s A n)
   comes_of (op.Plain plain.VaEnd) e k = falls_onward (ap way_of e) (va_end_step A n s) (va_end_falls s A n)
@@ -181,7 +184,6 @@ module _ (l : LabelledNodes) (shape : TextShape) (s : State) (n : Node) (is : Is
   comes_of (op.Store t at) e k = onward (ap way_of e) (store_step A n t at s) (need_on IsOnward (address A s at n 0) _ (λ a h. need_on IsOnward (value A s (operand_at n (stored_operand at))) _ (λ v g. when_on IsOnward (writable (is_open s) a (store_width t)) (quiet (on_with_carry (record s { mem = stored s.mem a (store_width t) v }))) (λ c. refl))))
   comes_of (op.Retval v) e k = falls_onward (ap way_of e) (retval_step n v s) (retval_falls s n v)
   comes_of (op.Getarg v) e k = falls_onward (ap way_of e) (getarg_step n v s) (getarg_falls s n v)
-  comes_of other e k = absurd (cc)
 
 pub reaches : StepsReachSuccessors
 unfolding Comes

@@ -25,30 +25,30 @@ further_none (Some k) = ap Some (let e : 0 + k ≡ k = omega arith in e)
 
 not_41 : (kind : PieceKind) → is_byte 40 kind ≡ true → is_byte 41 kind ≡ false
 not_41 (Byte b) h = let e : b ≡ 40 = eqb_true b 40 h in rw e refl
-not_41 other h = let bad : false ≡ true = h in cc
+not_41 kind h = let bad : false ≡ true = h in cc
 
 not_40 : (kind : PieceKind) → is_byte 41 kind ≡ true → is_byte 40 kind ≡ false
 not_40 (Byte b) h = let e : b ≡ 41 = eqb_true b 41 h in rw e refl
-not_40 other h = let bad : false ≡ true = h in cc
+not_40 kind h = let bad : false ≡ true = h in cc
 
 -- a comma, a ( and a ) are different
 not_44 : (kind : PieceKind) → is_byte 44 kind ≡ true → (is_byte 40 kind ≡ false) × (is_byte 41 kind ≡ false)
 not_44 (Byte b) h = let e : b ≡ 44 = eqb_true b 44 h in (rw e refl, rw e refl)
-not_44 other h = (refl, refl)
+not_44 kind h = (refl, refl)
 
 left_no_comma : (kind : PieceKind) → is_byte 40 kind ≡ true → is_byte 44 kind ≡ false
 left_no_comma (Byte b) h = let e : b ≡ 40 = eqb_true b 40 h in rw e refl
-left_no_comma other h = refl
+left_no_comma kind h = refl
 
 right_no_comma : (kind : PieceKind) → is_byte 41 kind ≡ true → is_byte 44 kind ≡ false
 right_no_comma (Byte b) h = let e : b ≡ 41 = eqb_true b 41 h in rw e refl
-right_no_comma other h = refl
+right_no_comma kind h = refl
 
 left_not_white : (kind : PieceKind) → is_byte 40 kind ≡ true → is_white kind ≡ false
 left_not_white (Byte b) h = let e : b ≡ 40 = eqb_true b 40 h in rw e refl
 left_not_white Comment h = let bad : false ≡ true = h in cc
 left_not_white Feed h = let bad : false ≡ true = h in cc
-left_not_white other h = refl
+left_not_white kind h = refl
 
 depth_same : (depth : ℕ) (kind : PieceKind) → is_byte 40 kind ≡ false → is_byte 41 kind ≡ false → depth_after depth kind ≡ depth
 depth_same depth kind left right = rw (left, right) refl
