@@ -19,7 +19,6 @@ use std::alloc::Global;
 use std::marker::Model;
 
 /// Which registers are live before and after each node of a text.
-#[derive(Drop)]
 pub struct Live {
     before: Vec<RegSet>,
     after: Vec<RegSet>,
@@ -31,6 +30,16 @@ impl Model for Live {
     ghost Value = { LiveSets };
 
     ghost view = { λ live. record { before = live.before.items; behind = live.after.items } };
+}
+
+// Written out, and not derived, so that an owner's proof has one call in the place of the drops of all parts.
+impl Drop for Live {
+    fn drop(self) {
+        let Live {
+            before: _before,
+            after: _after,
+        } = self;
+    }
 }
 
 // Returns the registers that are required at the points to which a point falls or jumps.

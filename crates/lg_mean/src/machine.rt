@@ -16,7 +16,6 @@ use lg_op::carry::Carry;
 use std::marker::Model;
 
 /// The state of the portable machine.
-#[derive(Drop)]
 pub(crate) struct Machine {
     pub(crate) at: u32,
     pub(crate) registers: [Option<u64>; 7],
@@ -41,6 +40,27 @@ impl Model for Machine {
     ghost view = { view_of };
 
     ghost invariant = { IsMachine };
+}
+
+// Written out, and not derived, so that an owner's proof has one call in the place of the drops of all parts.
+impl Drop for Machine {
+    fn drop(self) {
+        let Machine {
+            at: _,
+            registers: _,
+            carry: _,
+            answer: _,
+            staged: _,
+            count: _,
+            variadic: _,
+            top: _,
+            below: _below,
+            memory: _memory,
+            heap: _heap,
+            data_size: _,
+            args_size: _,
+        } = self;
+    }
 }
 
 // Returns the number of a register.

@@ -14,7 +14,6 @@ use std::alloc::Global;
 use std::marker::Model;
 
 /// The place of each label of some nodes. The labels of a node are in a chain, in the order of their numbers.
-#[derive(Drop)]
 pub struct Bindings {
     places: Vec<Option<Place>>,
     next: Vec<Option<Label>>,
@@ -30,6 +29,18 @@ impl Model for Bindings {
     ghost view = { bindings_of };
 
     ghost invariant = { AreBindings };
+}
+
+// Written out, and not derived, so that an owner's proof has one call in the place of the drops of all parts.
+impl Drop for Bindings {
+    fn drop(self) {
+        let Bindings {
+            places: _places,
+            next: _next,
+            ends: _ends,
+            end: _,
+        } = self;
+    }
 }
 
 impl Bindings {

@@ -18,7 +18,6 @@ use std::alloc::Global;
 use std::marker::Model;
 
 /// A list of nodes, and the labels that are mentioned in it, each with its word and the place at which it is bound.
-#[derive(Drop)]
 pub struct NodeList {
     alloc: Global,
     nodes: Vec<Node>,
@@ -36,6 +35,18 @@ impl Model for NodeList {
     ghost view = { view_of };
 
     ghost invariant = { IsNodeList };
+}
+
+// Written out, and not derived, so that an owner's proof has one call in the place of the drops of all parts.
+impl Drop for NodeList {
+    fn drop(self) {
+        let NodeList {
+            alloc: _,
+            nodes: _nodes,
+            words: _words,
+            bindings: _bindings,
+        } = self;
+    }
 }
 
 impl NodeList {

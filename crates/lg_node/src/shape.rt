@@ -17,7 +17,6 @@ use std::marker::Model;
 const LEAST_FRAME: u32 = 272;
 
 /// The shape of an accepted text: its functions, with the frame of each, and the labels that are taken.
-#[derive(Drop)]
 pub struct Shape {
     functions: Vec<Function>,
     numbers: Vec<Option<u32>>,
@@ -34,6 +33,17 @@ impl Model for Shape {
     ghost view = { view_of };
 
     ghost invariant = { IsShape };
+}
+
+// Written out, and not derived, so that an owner's proof has one call in the place of the drops of all parts.
+impl Drop for Shape {
+    fn drop(self) {
+        let Shape {
+            functions: _functions,
+            numbers: _numbers,
+            taken: _taken,
+        } = self;
+    }
 }
 
 impl Shape {
