@@ -4,6 +4,8 @@ use Rattle.std.specs.Prelude.{◌==◌, ◌||◌, ⊤, slice_index_or}
 use Rattle.std.specs.List.{list_any}
 use Rattle.std.proofs.lemmas.Bool.Decides.{nat_tests}
 use Rattle.std.proofs.lemmas.Bool.{or_right}
+use Rattle.lg_carry.specs.Nodes.Operands.{NamesBelow, NameBelow}
+use Rattle.lg_carry.specs.Values.Parts.{operand_in}
 use Rattle.lg_node.specs.Labels.{is_label}
 use Rattle.lg_op.specs.declared.operand.Operand.{Operand}
 use Rattle.lg_op.specs.declared.operand.Operand.TheVariants as operand
@@ -27,10 +29,7 @@ names xs label = list_any (is_label label) xs
 
 passes-more : (x y : Operand) (xs : List Operand) → Passes (names xs) y → Passes (names (x ∷ xs)) y
 passes-more x (operand.Label l) xs e = or_right (is_label l.0 x) (names xs l.0) e
-passes-more x (operand.Reg r) xs e = tt
-passes-more x (operand.Number v) xs e = tt
-passes-more x (operand.Host name) xs e = tt
-passes-more x (operand.Slot k) xs e = tt
+passes-more x y xs e = tt
 
 all-more : (x : Operand) (xs ys : List Operand) → AllPass (names xs) ys → AllPass (names (x ∷ xs)) ys
 all-more x xs [] a = tt
@@ -41,11 +40,14 @@ same-number n = grind (arith, nat_tests)
 
 passes-self : (x : Operand) (xs : List Operand) → Passes (names (x ∷ xs)) x
 passes-self (operand.Label l) xs = ap (λ b. b || names xs l.0) (same-number l.0)
-passes-self (operand.Reg r) xs = tt
-passes-self (operand.Number v) xs = tt
-passes-self (operand.Host name) xs = tt
-passes-self (operand.Slot k) xs = tt
+passes-self x xs = tt
 
 pub all-self : (xs : List Operand) → AllPass (names xs) xs
 all-self [] = tt
 all-self (x ∷ xs) = (passes-self x xs, all-more x xs xs (all-self xs))
+
+-- where the operands name labels that there are, so does each of them
+pub operand-below : (labels : ℕ) (xs : List Operand) (i : ℕ) → NameBelow labels xs → NamesBelow labels (operand_in xs i)
+operand-below labels [] i h = tt
+operand-below labels (x ∷ xs) zero h = h.0
+operand-below labels (x ∷ xs) (suc i) h = operand-below labels xs i h.1

@@ -21,3 +21,4 @@ pub mod PlaceLemmas
 pub mod ReachLemmas
 pub mod SelectionLemmas
 pub mod StoreLemmas
+pub mod WordLemmas

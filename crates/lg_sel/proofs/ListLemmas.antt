@@ -1,6 +1,7 @@
 -- Lists of items.
-use Rattle.std.proofs.Common.{◌≡◌, ℕ, ◌+◌, ◌<◌, ◌≤◌, List, [], ◌∷◌, ◌++◌, length, refl, ap, sym, ◌∙◌, add_assoc, zero-add, append_assoc, arith, length-append}
-use Rattle.std.specs.List.{All}
+use Rattle.std.proofs.Common.{◌≡◌, ℕ, ◌+◌, ◌<◌, ◌≤◌, Bool, true, false, List, [], ◌∷◌, ◌++◌, length, refl, ap, sym, ◌∙◌, add_assoc, zero-add, append_assoc, arith, length-append}
+use Rattle.std.specs.Prelude.{◌||◌}
+use Rattle.std.specs.List.{All, list_any}
 use Rattle.std.proofs.lemmas.List.Elements.{All-head, All-tail}
 use Rattle.lg_carry.specs.Blocks.{spellings}
 use Rattle.lg_sel.specs.Holes.{Holes, words_in, blanks, settled, fixes_of, Each, ones}
@@ -12,6 +13,14 @@ spellings-append spelling (i ∷ is) js = ap (λ l. spelling i ++ l) (spellings-
     ∙ sym (append_assoc (spelling i) (spellings spelling is) (spellings spelling js))
 
 -- ---- two lists in a row
+pub any-front : (p : ℕ → Bool) (xs ys : List ℕ) → list_any p xs ≡ true → list_any p (xs ++ ys) ≡ true
+any-front p [] ys h = cc
+any-front p (x ∷ xs) ys h = by (p x) (any-front p xs ys) h
+  where
+    by : (b : Bool) → (list_any p xs ≡ true → list_any p (xs ++ ys) ≡ true) → (b || list_any p xs) ≡ true → (b || list_any p (xs ++ ys)) ≡ true
+    by true rest h = refl
+    by false rest h = rest h
+
 pub each-append : {L : Type 0} (P : L → Type 0) (xs ys : List L) → Each P xs → Each P ys → Each P (xs ++ ys)
 each-append P [] ys a b = b
 each-append P (x ∷ xs) ys a b = (a.0, each-append P xs ys a.1 b)

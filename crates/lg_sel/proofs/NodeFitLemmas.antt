@@ -42,10 +42,7 @@ named-at labels (x ∷ xs) (suc k) named = named-at labels xs k named.1
 -- the label that is passed is one of the buffer's
 pub passed : (labels : ℕ) (x : Operand) → NamesBelow labels x → (l : Label) → x ≡ operand.Label l → l.0 < labels
 passed labels (operand.Label m) named l e = let same : m.0 ≡ l.0 = cc in omega (arith, named, same)
-passed labels (operand.Number v) named l e = cc
-passed labels (operand.Reg r) named l e = cc
-passed labels (operand.Host name) named l e = cc
-passed labels (operand.Slot k) named l e = cc
+passed labels x named l e = cc
 
 -- this many arguments are staged at a `pushargr` or `pushargi`
 pub few-staged : {target : Target} {needs : Op → List Need} (n : Node) (live : Reg → Bool) (staged : List Bool) (choices : List Choice) (labels : ℕ) (last : LastOperand) → IsAsked target needs n live staged choices labels

@@ -1,14 +1,11 @@
 -- The items of a node as its instructions.
-use Rattle.std.proofs.Common.{◌≡◌, ℕ, ◌+◌, ◌-◌, ◌<◌, Bool, true, List, length, drop, sym, ap, ◌∙◌, arith}
+use Rattle.std.proofs.Common.{◌≡◌, ℕ, ◌+◌, ◌-◌, Bool, List, length, drop, sym, ap, ◌∙◌, arith}
 use Rattle.std.specs.Prelude.{slice_get, slice_index, slice_index_or}
 use Rattle.lg_base.specs.Layout.{code_base}
-use Rattle.lg_carry.specs.Blocks.{spellings, IsBlock}
-use Rattle.lg_carry.specs.Carries.{leaps_at, moves_at}
-use Rattle.lg_carry.specs.FinalNodes.{Code}
-use Rattle.lg_carry.specs.NodeBlocks.{IsNodeBlock}
-use Rattle.lg_carry.specs.Passages.{IsNodeCode}
+use Rattle.lg_carry.specs.Blocks.{spellings}
+use Rattle.lg_carry.specs.Carries.{moves_at}
 use Rattle.lg_carry.specs.Rows.{Rows}
-use Rattle.lg_sel.specs.Holes.{Holes, words_in, blanks, settled, AreHoles}
+use Rattle.lg_sel.specs.Holes.{Holes, blanks, settled, AreHoles}
 use Rattle.lg_sel.specs.NodeItems.{InstructionsStay, ItemsAreNodeBlocks, ItemsAreNodeCode}
 use Rattle.lg_sel.proofs.HoleLemmas as holes
 

@@ -19,7 +19,6 @@ use Rattle.lg_op.specs.declared.op.LastOperand.{LastOperand}
 use Rattle.lg_op.specs.declared.op.LastOperand.TheVariants as last_operand
 use Rattle.lg_op.specs.declared.operand.Operand.{Operand}
 use Rattle.lg_op.specs.declared.operand.Operand.TheVariants as operand
-use Rattle.lg_op.specs.declared.operand.Reg.{Reg}
 use Rattle.lg_meaning.specs.Steps.{operand_at}
 use Rattle.lg_carry.specs.Nodes.Operands.{HasWord, HaveWords}
 use Rattle.lg_sel.specs.Selected.{is_label_for, has_label_for, may_take_label, TakesLabelsWell}
@@ -35,10 +34,7 @@ word-at (x ∷ xs) (suc k) words = word-at xs k words.1
 
 pub word-is : (x : Operand) (v : ℕ) → x ≡ operand.Number v → HasWord x → v < 2 ^ 64
 word-is (operand.Number w) v e word = let same : w ≡ v = cc in omega (arith, same, word)
-word-is (operand.Reg r) v e word = cc
-word-is (operand.Label l) v e word = cc
-word-is (operand.Host name) v e word = cc
-word-is (operand.Slot k) v e word = cc
+word-is x v e word = cc
 
 pub has-words : (n : Node) → HaveWords n.operands → HasWords n
 has-words n words k v e = word-is (operand_at n k) v e (word-at n.operands k words)
@@ -141,15 +137,11 @@ control-ends n is a takes = by n.op n.operands n.line is a takes
 -- loads and stores lead nowhere
 pub loads-lead : (at : Addressing) → leads_nowhere (form.Write ∷ address_forms at) ≡ true
 loads-lead addressing.Register = refl
-loads-lead addressing.Immediate = refl
-loads-lead addressing.RegisterRegister = refl
-loads-lead addressing.RegisterImmediate = refl
+loads-lead at = refl
 
 pub stores-lead : (at : Addressing) → leads_nowhere (store_forms at) ≡ true
 stores-lead addressing.Register = refl
-stores-lead addressing.Immediate = refl
-stores-lead addressing.RegisterRegister = refl
-stores-lead addressing.RegisterImmediate = refl
+stores-lead at = refl
 
 -- ---- the nodes of a text
 -- their operands are those of the operation

@@ -1,5 +1,5 @@
 -- What the code of the operations on two words computes.
-use Rattle.std.proofs.Common.{◌≡◌, ◌≢◌, ℕ, ◌+◌, ◌*◌, ◌%◌, ◌^◌, ◌<◌, Bool, true, false, Some, refl, sym, ap, ◌∙◌, arith, length}
+use Rattle.std.proofs.Common.{◌≡◌, ◌≢◌, ℕ, ◌+◌, ◌*◌, ◌%◌, ◌^◌, ◌<◌, Bool, true, false, Some, refl, sym, ap, ◌∙◌, arith}
 use Rattle.std.specs.Prelude.{◌==◌, ◌||◌, not, if◌then◌else◌, ⊤}
 use Rattle.lg_base.specs.Flags.{carry_of, carry_flag}
 use Rattle.lg_base.specs.Words.{add_words, mul_words, sub_words, quotient, quotient_signed, remainder, remainder_signed, is_less, is_less_signed, word_of_test, shifted_left, shifted_right, shifted_right_signed, carry_out, borrow_out}

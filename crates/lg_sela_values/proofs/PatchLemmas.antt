@@ -23,7 +23,8 @@ use Rattle.lg_a64.proofs.AgainLemmas.{word_fits}
 use Rattle.lg_sela_values.specs.declared.items.Item.{Item}
 use Rattle.lg_sela_values.specs.declared.items.Item.TheVariants.{One, Branch, CondBranch, Address}
 use Rattle.lg_sela_values.specs.Items.{a64_holes, IsItem, words_of, low_quarter, next_quarter, settle, fix_of, A64Holes}
-use Rattle.lg_sela_values.proofs.ItemWordLemmas.{split-word, IsWordAt, word-stands, branch-is, cond-is, words-are, move-is, keep-is, moves-are}
+use Rattle.lg_sel.proofs.WordLemmas.{split-word, IsWordAt, word-stands}
+use Rattle.lg_sela_values.proofs.ItemWordLemmas.{branch-is, cond-is, words-are, move-is, keep-is, moves-are}
 use Rattle.lg_sel.specs.Holes.{IsWithin, HaveAddresses, IsPatched, IsSettled}
 
 module _ (labels : List (Option ℕ)) (emitted finished : List ℕ) (to : ℕ → ℕ) (addresses : HaveAddresses labels to) (p : ℕ) where

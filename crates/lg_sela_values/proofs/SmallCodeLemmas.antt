@@ -1,5 +1,5 @@
 -- The code of the operations on a register and a number that an instruction holds.
-use Rattle.std.proofs.Common.{◌≡◌, ◌≢◌, ℕ, ◌+◌, ◌%◌, ◌^◌, ◌<◌, Bool, true, false, [], Some, refl, sym, ap, ◌∙◌, arith, length}
+use Rattle.std.proofs.Common.{◌≡◌, ◌≢◌, ℕ, ◌+◌, ◌%◌, ◌^◌, ◌<◌, Bool, true, false, [], Some, refl, sym, ap, ◌∙◌, arith}
 use Rattle.std.specs.Prelude.{◌==◌, not}
 use Rattle.lg_base.specs.Words.{add_words, sub_words, negated, is_less, is_less_signed, word_of_test, carry_out, borrow_out}
 use Rattle.lg_base.specs.declared.target.Target.TheVariants.{Aarch64}

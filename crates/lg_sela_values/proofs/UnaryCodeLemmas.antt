@@ -1,5 +1,5 @@
 -- The code of the operations on one register computes them.
-use Rattle.std.proofs.Common.{◌≡◌, ◌≢◌, ℕ, ◌<◌, true, refl, ap, ◌∙◌, arith, length}
+use Rattle.std.proofs.Common.{◌≡◌, ◌≢◌, ℕ, ◌<◌, true, refl, ap, ◌∙◌, arith}
 use Rattle.lg_base.specs.Wide.{sign_part_of, zero_part_of, swapped}
 use Rattle.lg_base.specs.Words.{sub_words, negated}
 use Rattle.lg_op.specs.declared.op.UnaryOp.{UnaryOp}

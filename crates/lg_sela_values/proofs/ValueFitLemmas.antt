@@ -1,5 +1,5 @@
 -- The items of a node that are emitted.
-use Rattle.std.proofs.Common.{◌≡◌, ℕ, zero, suc, ◌<◌, ◌⊎◌, inl, inr, Bool, true, false, List, [], ◌∷◌, ◌++◌, refl, sym, subst, arith, length, ◌≤◌}
+use Rattle.std.proofs.Common.{◌≡◌, ℕ, ◌<◌, ◌⊎◌, inl, inr, Bool, true, false, List, [], ◌∷◌, ◌++◌, refl, sym, subst, arith, length, ◌≤◌}
 use Rattle.std.specs.Prelude.{◌==◌, ◌||◌, ⊤, negsuc, pos, ◌≤ℤ◌}
 use Rattle.std.specs.List.{list_any}
 use Rattle.lg_base.specs.HostNames.{host_address}
@@ -37,6 +37,7 @@ use Rattle.lg_sela_values.specs.GoodItems.{Fine, IsGoodItem}
 use Rattle.lg_sela_values.proofs.GoodLemmas.{items-good, good-items-are-appendable}
 use Rattle.lg_sela_values.proofs.FitLemmas.{body-good}
 use Rattle.lg_sela_values.proofs.WithinLemmas.{In}
+use Rattle.lg_sel.proofs.LabelLemmas.{operand-below}
 use Rattle.lg_sel.specs.Holes.{Each}
 use Rattle.lg_op.specs.declared.operand.Reg.{Reg}
 use Rattle.std.proofs.lemmas.Bool.Decides.{nat_tests}
@@ -156,11 +157,6 @@ wide-names labels o d e a (operand.Number v) h = link-names labels o d e a (oper
 wide-names labels o d e a (operand.Host name) h = link-names labels o d e a (operand.Host name) h
 wide-names labels o d e a (operand.Label l) h = link-names labels o d e a (operand.Label l) h
 wide-names labels o d e a (operand.Slot k) h = link-names labels o d e a (operand.Slot k) h
-
-operand-below : (labels : ℕ) (xs : List Operand) (i : ℕ) → NameBelow labels xs → NamesBelow labels (operand_in xs i)
-operand-below labels [] i h = tt
-operand-below labels (x ∷ xs) zero h = h.0
-operand-below labels (x ∷ xs) (suc i) h = operand-below labels xs i h.1
 
 body-names : (labels : ℕ) (o : Op) (xs : List Operand) (u : ℕ) → NameBelow labels xs → NameLabels labels (body_items o xs u)
 body-names labels (op.Binary o last) xs u h = binary-names labels o u (register_in xs 0) (register_in xs 1) (operand_in xs 2) (operand-below labels xs 2 h)

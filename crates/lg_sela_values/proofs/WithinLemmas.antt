@@ -1,6 +1,6 @@
 -- Instructions and items that write no register that is outside of the conventions.
 use Rattle.std.proofs.Common.{◌≡◌, ℕ, ◌/◌, ◌%◌, ◌^◌, Bool, true, false, List, [], ◌∷◌, ◌++◌, refl, ap, Option, Some, None}
-use Rattle.std.specs.Prelude.{◌==◌, nat_lt, if◌then◌else◌, ◌||◌, not, nat_eq}
+use Rattle.std.specs.Prelude.{◌==◌, nat_lt, if◌then◌else◌, not, nat_eq}
 use Rattle.std.specs.List.{list_any}
 use Rattle.lg_a64.specs.declared.instruction.RegOp.TheVariants.{Adds, Subs, Ands}
 use Rattle.lg_a64.specs.declared.instruction.RegOp.{RegOp}
@@ -86,17 +86,9 @@ number rd v h = by (nat_lt (complement v) (2 ^ 32)) (v / 2 ^ 16 % 2 ^ 16 == 6553
     by false b = positive rd v h
 
 -- ---- code that moves the stack pointer may write what other code may
-any-front : (p : ℕ → Bool) (xs ys : List ℕ) → list_any p xs ≡ true → list_any p (xs ++ ys) ≡ true
-any-front p [] ys h = cc
-any-front p (x ∷ xs) ys h = by (p x) (any-front p xs ys) h
-  where
-    by : (b : Bool) → (list_any p xs ≡ true → list_any p (xs ++ ys) ≡ true) → (b || list_any p xs) ≡ true → (b || list_any p (xs ++ ys)) ≡ true
-    by true rest h = refl
-    by false rest h = rest h
-
 moving : (rd : ℕ) → In rd → is_outside Aarch64 true rd ≡ false
 moving rd h = by (list_any (nat_eq rd) (written_registers Aarch64 false)) (list_any (nat_eq rd) (written_registers Aarch64 true)) h
-    (any-front (nat_eq rd) (written_registers Aarch64 false) (stack_register Aarch64 ∷ []))
+    (lists.any-front (nat_eq rd) (written_registers Aarch64 false) (stack_register Aarch64 ∷ []))
   where
     by : (b c : Bool) → not b ≡ false → (b ≡ true → c ≡ true) → not c ≡ false
     by true c h k = ap not (k refl)

@@ -1,7 +1,6 @@
 -- Items that are appended to others.
-use Rattle.std.proofs.Common.{◌≡◌, ℕ, ◌+◌, ◌-◌, ◌≤◌, List, [], ◌++◌, sym, ap, ◌∙◌, arith, length, append_assoc}
+use Rattle.std.proofs.Common.{◌≡◌, ℕ, ◌+◌, ◌≤◌, List, [], ◌++◌, sym, ap, ◌∙◌, arith, length, append_assoc}
 use Rattle.lg_rv.specs.declared.instruction.Instr.{Instr}
-use Rattle.lg_rv.specs.declared.instruction.Instr.TheVariants.{Reg}
 use Rattle.lg_selr_values.specs.Processor.Numbers.{number_code}
 use Rattle.lg_selr_values.proofs.OfProcessor.NumberCodeLemmas as numbers
 use Rattle.lg_base.specs.HostNames.{host_address}

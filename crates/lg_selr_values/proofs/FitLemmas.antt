@@ -160,10 +160,7 @@ unary-good unary.ExtrI d a h k = ((imm-fits d a 0 h.0 k (omega arith), h.1, refl
 unary-good unary.HtonrUs d a h k = swapped-good d a 1 h k
 unary-good unary.HtonrUi d a h k = swapped-good d a 3 h k
 unary-good unary.HtonrUl d a h k = swapped-good d a 7 h k
-unary-good unary.ExtrC d a h k = (((h.0, k, omega arith, λ e. absurd (omega (arith, e))), h.1, refl), (((h.0, h.0, omega arith, λ e. absurd (omega (arith, e))), h.1, refl), tt))
-unary-good unary.ExtrS d a h k = (((h.0, k, omega arith, λ e. absurd (omega (arith, e))), h.1, refl), (((h.0, h.0, omega arith, λ e. absurd (omega (arith, e))), h.1, refl), tt))
-unary-good unary.ExtrUs d a h k = (((h.0, k, omega arith, λ e. absurd (omega (arith, e))), h.1, refl), (((h.0, h.0, omega arith, λ e. absurd (omega (arith, e))), h.1, refl), tt))
-unary-good unary.ExtrUi d a h k = (((h.0, k, omega arith, λ e. absurd (omega (arith, e))), h.1, refl), (((h.0, h.0, omega arith, λ e. absurd (omega (arith, e))), h.1, refl), tt))
+unary-good o d a h k = (((h.0, k, omega arith, λ e. absurd (omega (arith, e))), h.1, refl), (((h.0, h.0, omega arith, λ e. absurd (omega (arith, e))), h.1, refl), tt))
 
 carried-good : (o : BinaryOp) (u d a : ℕ) → Fine u → Fine d → a < 32 → AreGood (carry_code o u d a)
 carried-good binary.Addc u d a g h k = (((h.0, k, omega arith), h.1, refl), (((omega arith, h.0, omega arith), refl, refl), tt))
@@ -238,10 +235,7 @@ operation-good o u d a x g h k = by (sets_carry o)
 
 register-fine : (x : Operand) → Fine (register_for Riscv64 x)
 register-fine (operand.Reg r) = (register-small r, portable r)
-register-fine (operand.Number v) = (omega arith, refl)
-register-fine (operand.Host name) = (omega arith, refl)
-register-fine (operand.Label l) = (omega arith, refl)
-register-fine (operand.Slot k) = (omega arith, refl)
+register-fine x = (omega arith, refl)
 
 fine-at : (xs : List Operand) (i : ℕ) → Fine (register_in xs i)
 fine-at xs i = register-fine (operand_in xs i)

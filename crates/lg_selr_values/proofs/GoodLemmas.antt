@@ -11,7 +11,7 @@ use Rattle.lg_sel.specs.Holes.{Each}
 use Rattle.lg_sel.proofs.GoodItemLemmas as good_items
 use Rattle.lg_sel.proofs.ListLemmas as lists
 use Rattle.lg_selr_values.specs.declared.items.Item.{Item}
-use Rattle.lg_selr_values.specs.declared.items.Item.TheVariants.{One, Branch, Jump, FarJump, Address}
+use Rattle.lg_selr_values.specs.declared.items.Item.TheVariants.{One, Address}
 use Rattle.lg_selr_values.specs.Items.{rv_holes, settle, ones, IsItem, StaysWithin}
 use Rattle.lg_selr_values.specs.GoodItems.{Fine, IsGood, AreGood, IsGoodItem, GoodItemsAreAppendable}
 use Rattle.lg_selr_values.proofs.NumberLemmas.{number-each}
@@ -41,24 +41,18 @@ number-good rd v h = all (number_code rd v) (number-fits rd v h.0) (number rd v 
 -- ---- items
 fit : (x : Item) → IsGoodItem x → IsItem x
 fit (One i) h = h.0
-fit (Branch o rs1 rs2 label) h = absurd h
-fit (Jump rd label) h = absurd h
-fit (FarJump rd base label) h = absurd h
 fit (Address rd label) h = h.0
+fit x h = absurd h
 
 stay : (x : Item) → IsGoodItem x → StaysWithin false x
 stay (One i) h = h.1
-stay (Branch o rs1 rs2 label) h = absurd h
-stay (Jump rd label) h = absurd h
-stay (FarJump rd base label) h = absurd h
 stay (Address rd label) h = h.1
+stay x h = absurd h
 
 follow : (x : Item) (to : ℕ → ℕ) (at : ℕ) → IsGoodItem x → Each (λ i. is_straight i ≡ true) (settle to at x)
 follow (One i) to at h = (h.2, tt)
-follow (Branch o rs1 rs2 label) to at h = absurd h
-follow (Jump rd label) to at h = absurd h
-follow (FarJump rd base label) to at h = absurd h
 follow (Address rd label) to at h = (refl, (refl, tt))
+follow x to at h = absurd h
 
 pub good-items-are-appendable : GoodItemsAreAppendable
 good-items-are-appendable = good_items.good-items-are-appendable rv_holes is_straight IsItem (StaysWithin false) IsGoodItem fit stay follow

@@ -1,23 +1,17 @@
 -- Words of instructions in lists of bytes, and words whose fields were patched.
-use Rattle.std.proofs.Common.{◌≡◌, ℕ, suc, ◌+◌, ◌-◌, ◌*◌, ◌%◌, ◌^◌, ◌<◌, ◌≤◌, List, ◌++◌, length, take, drop, get_or, Bool, true, false, nat_lt, pos, negsuc, ◌+ℤ◌, ◌*ℤ◌, ◌≤ℤ◌, refl, sym, ap, ◌∙◌, arith, length-drop, length-take, ⊎_elim}
+use Rattle.std.proofs.Common.{◌≡◌, ℕ, suc, ◌+◌, ◌-◌, ◌*◌, ◌%◌, ◌^◌, ◌<◌, ◌≤◌, Bool, true, false, nat_lt, pos, negsuc, ◌+ℤ◌, ◌*ℤ◌, refl, sym, ap, ◌∙◌, arith}
 use Rattle.std.specs.Prelude.{if◌then◌else◌, ℤ, ◌-ℤ◌}
-use Rattle.std.specs.Int.{w32, from_le_bytes, to_le_bytes}
 use Rattle.std.proofs.lemmas.Int.{ints}
 use Rattle.std.proofs.lemmas.Bool.Decides.{nat_tests}
-use Rattle.std.proofs.lemmas.List.{take-append-drop, drop-drop, get_or-drop, get_or-take, get_or_past}
-use Rattle.std.proofs.lemmas.Bool.{cases_lt}
-use Rattle.std.proofs.lemmas.Nat.{le_bytes_4, from_le_bytes-to_le_bytes_4}
 use Rattle.lg_base.specs.Fields.{part, signed}
 use Rattle.lg_base.specs.Fields.{word_of as word_of_number}
 use Rattle.lg_base.specs.Immediates.{branch_bits, jump_bits}
-use Rattle.lg_base.specs.WordFronts.{word_at}
 use Rattle.lg_base.proofs.NumberLemmas.{bits_of-signed}
-use Rattle.lg_base.proofs.WordFrontLemmas.{word_is}
-use Rattle.lg_cpu.specs.Laws.{AreBytes}
+use Rattle.lg_sel.proofs.WordLemmas.{field-range}
 use Rattle.lg_rv.specs.declared.instruction.Instr.TheVariants.{Upper, Jal, Branch, Imm}
 use Rattle.lg_buf.specs.FixFields.{branch_rest}
 use Rattle.lg_rv.specs.declared.instruction.BranchOp.{BranchOp}
-use Rattle.lg_rv.specs.declared.instruction.BranchOp.TheVariants.{Beq, Bne, Blt, Bge, Bltu, Bgeu}
+use Rattle.lg_rv.specs.declared.instruction.BranchOp.TheVariants.{Beq}
 use Rattle.lg_rv.specs.declared.instruction.UpperOp.{UpperOp}
 use Rattle.lg_rv.specs.declared.instruction.UpperOp.TheVariants.{Lui, Auipc}
 use Rattle.lg_rv.specs.declared.instruction.ImmOp.TheVariants.{Addi, Jalr}
@@ -25,44 +19,7 @@ use Rattle.lg_rv.specs.Spelling.{word_of, IsInstr}
 use Rattle.lg_selr_values.specs.Processor.Numbers.{high_part, low_part}
 use Rattle.lg_selr_values.specs.Items.{distance}
 
--- ---- bytes and words
-front-small : (bytes : List ℕ) → ((i : ℕ) → get_or bytes i 0 < 256) → (i : ℕ) → get_or (take 4 bytes) i 0 < 256
-front-small bytes small i = ⊎_elim
-    (λ lt. let e = get_or-take 4 bytes i 0 lt in omega (arith, e, small i))
-    (λ ge. let e = get_or_past (take 4 bytes) i 0 (omega (arith, length-take 4 bytes)) in omega (arith, e))
-    (cases_lt i 4)
-
--- the bytes from a place on are those of the word there, and those after it
-pub split-word : (bytes : List ℕ) (p : ℕ) → AreBytes bytes → p + 4 ≤ length bytes → drop p bytes ≡ to_le_bytes w32 (word_at bytes p) ++ drop (p + 4) bytes
-split-word bytes p small long =
-    let front : List ℕ = take 4 (drop p bytes) in
-    let l : length front ≡ 4 = length-take 4 (drop p bytes) ∙ (let d = length-drop p bytes in omega (arith, d)) in
-    let s : (i : ℕ) → get_or front i 0 < 256 = λ i. front-small (drop p bytes) (λ k. rw get_or-drop (small (p + k))) i in
-    let e : to_le_bytes w32 (word_at bytes p) ≡ front = le_bytes_4 front (word_at bytes p) l s (sym (word_is bytes p long)) in
-    sym (take-append-drop 4 (drop p bytes)) ∙ (λ j. sym e j ++ drop-drop 4 p bytes j)
-
--- where the bytes of a word are at a place, it is the word there
-pub record IsWordAt (bytes rest : List ℕ) (p n : ℕ) : Type 0 where
-  pub long : p + 4 ≤ length bytes
-  pub word : word_at bytes p ≡ n
-  pub behind : drop (p + 4) bytes ≡ rest
-
-pub word-stands : (bytes rest : List ℕ) (p n : ℕ) → n < 2 ^ 32 → drop p bytes ≡ to_le_bytes w32 n ++ rest → IsWordAt bytes rest p n
-word-stands bytes rest p n fits e =
-    let l : p + 4 ≤ length bytes = (let d = length-drop p bytes in let a = ap length e in omega (arith, d, a)) in record {
-      long = l;
-      word = sym (word_is bytes p l) ∙ (ap (λ xs. from_le_bytes w32 (take 4 xs)) e ∙ from_le_bytes-to_le_bytes_4 n fits);
-      behind = sym (drop-drop 4 p bytes) ∙ ap (drop 4) e;
-    }
-
 -- ---- patched words
-field-range : (half bits : ℕ) → bits < half + half → (pos 0 ≤ℤ (signed half bits +ℤ pos half)) × ((signed half bits +ℤ pos 1) ≤ℤ pos half)
-field-range half bits h = cases (nat_lt bits half) refl
-  where
-    cases : (b : Bool) → nat_lt bits half ≡ b → (pos 0 ≤ℤ (signed half bits +ℤ pos half)) × ((signed half bits +ℤ pos 1) ≤ℤ pos half)
-    cases true e = rw e (let lt : bits < half = grind (arith, nat_tests) in (omega (arith, ints), omega (arith, ints)))
-    cases false e = rw e (let ge : half ≤ bits = grind (arith, nat_tests) in (omega (arith, ints), omega (arith, ints)))
-
 -- a word that differs from that of a jump by nothing only in its field is that of the jump by the number in the field
 pub jump-is : (w rd : ℕ) → w < 2 ^ 32 → rd < 32 → part 0 12 w ≡ part 0 12 (word_of (Jal rd (pos 0))) → (word_of (Jal rd (signed 1048576 (jump_bits w))) ≡ w) × IsInstr (Jal rd (signed 1048576 (jump_bits w)))
 jump-is w rd fits small rest =
@@ -73,11 +30,7 @@ jump-is w rd fits small rest =
 branch-word : (o : BranchOp) (w a b : ℕ) → w < 2 ^ 32 → a < 32 → b < 32 → branch_rest w ≡ branch_rest (word_of (Branch o a b (pos 0)))
     → word_of (Branch o a b (signed 4096 (branch_bits w))) ≡ w
 branch-word Beq w a b fits ha hb rest = let s = bits_of-signed 4096 (branch_bits w) (omega arith) in rw s (omega arith)
-branch-word Bne w a b fits ha hb rest = let s = bits_of-signed 4096 (branch_bits w) (omega arith) in rw s (omega arith)
-branch-word Blt w a b fits ha hb rest = let s = bits_of-signed 4096 (branch_bits w) (omega arith) in rw s (omega arith)
-branch-word Bge w a b fits ha hb rest = let s = bits_of-signed 4096 (branch_bits w) (omega arith) in rw s (omega arith)
-branch-word Bltu w a b fits ha hb rest = let s = bits_of-signed 4096 (branch_bits w) (omega arith) in rw s (omega arith)
-branch-word Bgeu w a b fits ha hb rest = let s = bits_of-signed 4096 (branch_bits w) (omega arith) in rw s (omega arith)
+branch-word o w a b fits ha hb rest = let s = bits_of-signed 4096 (branch_bits w) (omega arith) in rw s (omega arith)
 
 pub branch-is : (o : BranchOp) (w a b : ℕ) → w < 2 ^ 32 → a < 32 → b < 32 → branch_rest w ≡ branch_rest (word_of (Branch o a b (pos 0)))
     → (word_of (Branch o a b (signed 4096 (branch_bits w))) ≡ w) × IsInstr (Branch o a b (signed 4096 (branch_bits w)))

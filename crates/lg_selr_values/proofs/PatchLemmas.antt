@@ -25,7 +25,8 @@ use Rattle.lg_selr_values.specs.Processor.Numbers.{high_part, low_part}
 use Rattle.lg_selr_values.specs.declared.items.Item.{Item}
 use Rattle.lg_selr_values.specs.declared.items.Item.TheVariants.{One, Branch, Jump, FarJump, Address}
 use Rattle.lg_selr_values.specs.Items.{rv_holes, IsItem, words_of, distance, settle, fix_of, RvHoles}
-use Rattle.lg_selr_values.proofs.ItemWordLemmas.{split-word, IsWordAt, word-stands, branch-is, jump-is, upper-is, addi-is, jalr-is, parts-are, far-parts}
+use Rattle.lg_sel.proofs.WordLemmas.{split-word, IsWordAt, word-stands}
+use Rattle.lg_selr_values.proofs.ItemWordLemmas.{branch-is, jump-is, upper-is, addi-is, jalr-is, parts-are, far-parts}
 use Rattle.lg_sel.specs.Holes.{IsWithin, HaveAddresses, IsPatched, IsSettled}
 
 module _ (labels : List (Option ℕ)) (emitted finished : List ℕ) (to : ℕ → ℕ) (addresses : HaveAddresses labels to) (p : ℕ) where
@@ -153,17 +154,11 @@ are-holes = record {
 
     counted : (to : ℕ → ℕ) (at : ℕ) (x : Item) → IsItem x → length (settle to at x) ≡ words_of x
     counted to at (One i) ok = refl
-    counted to at (Branch o a b label) ok = refl
-    counted to at (Jump rd label) ok = refl
-    counted to at (FarJump rd base label) ok = refl
-    counted to at (Address rd label) ok = refl
+    counted to at x ok = refl
 
     long : (to : ℕ → ℕ) (at : ℕ) (x : Item) → IsItem x → length (spellings spelling (settle to at x)) ≡ length (rv_holes.blank x)
     long to at (One i) ok = refl
-    long to at (Branch o a b label) ok = refl
-    long to at (Jump rd label) ok = refl
-    long to at (FarJump rd base label) ok = refl
-    long to at (Address rd label) ok = refl
+    long to at x ok = refl
 
     settles : (labels : List (Option ℕ)) (emitted finished : List ℕ) (to : ℕ → ℕ) (place : ℕ) (x : Item) → IsItem x → HaveAddresses labels to → IsPatched rv_holes labels emitted finished place x
         → IsSettled spelling IsInstr finished place (place + length (rv_holes.blank x)) (settle to (code_base + place) x)

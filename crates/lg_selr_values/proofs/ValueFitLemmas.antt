@@ -1,5 +1,5 @@
 -- The items of a node that are emitted.
-use Rattle.std.proofs.Common.{◌≡◌, ℕ, zero, suc, ◌<◌, ◌⊎◌, inl, inr, Bool, true, false, List, [], ◌∷◌, ◌++◌, refl, sym, subst, arith, length, ◌≤◌}
+use Rattle.std.proofs.Common.{◌≡◌, ℕ, ◌<◌, ◌⊎◌, inl, inr, Bool, true, false, List, [], ◌∷◌, ◌++◌, refl, sym, subst, arith, length, ◌≤◌}
 use Rattle.std.specs.Prelude.{◌==◌, ◌||◌, ⊤, negsuc, pos, ◌≤ℤ◌, if◌then◌else◌}
 use Rattle.std.specs.List.{list_any}
 use Rattle.lg_base.specs.HostNames.{host_address}
@@ -39,6 +39,7 @@ use Rattle.lg_selr_values.specs.GoodItems.{Fine, IsGoodItem}
 use Rattle.lg_selr_values.proofs.GoodLemmas.{items-good, good-items-are-appendable}
 use Rattle.lg_selr_values.proofs.FitLemmas.{body-good}
 use Rattle.lg_selr_values.proofs.WithinLemmas.{In}
+use Rattle.lg_sel.proofs.LabelLemmas.{operand-below}
 use Rattle.lg_sel.specs.Holes.{Each}
 use Rattle.lg_op.specs.declared.operand.Reg.{Reg}
 use Rattle.std.proofs.lemmas.Bool.Decides.{nat_tests}
@@ -173,11 +174,6 @@ operation-names labels o u d a x h = by (sets_carry o)
     by : (b : Bool) → NameLabels labels (if b then carry_items o u d a x else binary_items o d a x)
     by true = names-append labels (second_items x) (ones (carry_code o u d a)) (second-names labels x h) (names-ones labels (carry_code o u d a))
     by false = binary-names labels o d a x h
-
-operand-below : (labels : ℕ) (xs : List Operand) (i : ℕ) → NameBelow labels xs → NamesBelow labels (operand_in xs i)
-operand-below labels [] i h = tt
-operand-below labels (x ∷ xs) zero h = h.0
-operand-below labels (x ∷ xs) (suc i) h = operand-below labels xs i h.1
 
 body-names : (labels : ℕ) (o : Op) (xs : List Operand) (u : ℕ) → NameBelow labels xs → NameLabels labels (body_items o xs u)
 body-names labels (op.Binary o last) xs u h = operation-names labels o u (register_in xs 0) (register_in xs 1) (operand_in xs 2) (operand-below labels xs 2 h)

@@ -1,5 +1,5 @@
 -- The nodes that compute values are carried by their items.
-use Rattle.std.proofs.Common.{◌≡◌, ◌≢◌, ℕ, ◌⊎◌, inl, inr, Bool, true, false, refl, sym, ◌∙◌, subst}
+use Rattle.std.proofs.Common.{◌≡◌, ◌≢◌, ℕ, ◌⊎◌, inl, inr, true, false, refl, sym, ◌∙◌, subst}
 use Rattle.std.proofs.lemmas.Bool.{cases_Bool}
 use Rattle.lg_op.specs.Forms.{last_form, admits}
 use Rattle.lg_op.specs.declared.op.BinaryOp.{BinaryOp}

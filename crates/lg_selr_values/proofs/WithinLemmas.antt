@@ -1,6 +1,6 @@
 -- Instructions and items that write no register that is outside of the conventions.
 use Rattle.std.proofs.Common.{◌≡◌, ℕ, Bool, true, false, List, ◌++◌, refl, [], ◌∷◌, ap, Option, Some, None}
-use Rattle.std.specs.Prelude.{◌||◌, not, nat_eq}
+use Rattle.std.specs.Prelude.{not, nat_eq}
 use Rattle.std.specs.List.{list_any}
 use Rattle.lg_base.specs.Conventions.{stack_register}
 use Rattle.lg_base.specs.declared.target.Target.TheVariants.{Riscv64}
@@ -8,7 +8,7 @@ use Rattle.lg_carry.specs.Outside.{is_outside, written_registers}
 use Rattle.lg_selr_values.specs.Processor.Destinations.{WritesWithin, IsWithin, destination}
 use Rattle.lg_selr_values.specs.Processor.Numbers.{number_code}
 use Rattle.lg_op.specs.declared.operand.Reg.{Reg}
-use Rattle.lg_op.specs.declared.operand.Reg.TheVariants.{R0, R1, R2, V0, V1, V2, Fp}
+use Rattle.lg_op.specs.declared.operand.Reg.TheVariants.{R0}
 use Rattle.lg_rv.specs.declared.instruction.Instr.{Instr}
 use Rattle.lg_sel.proofs.ListLemmas as lists
 use Rattle.lg_sel.specs.Holes.{Each}
@@ -24,12 +24,7 @@ In rd = is_outside Riscv64 false rd ≡ false
 
 pub portable : (r : Reg) → In (register_of Riscv64 r)
 portable R0 = refl
-portable R1 = refl
-portable R2 = refl
-portable V0 = refl
-portable V1 = refl
-portable V2 = refl
-portable Fp = refl
+portable r = refl
 
 -- ---- lists
 abbrev pub Within : List Instr → Type 0
@@ -48,17 +43,9 @@ pub number : (rd v : ℕ) → In rd → Within (number_code rd v)
 number rd v h = number-each rd (WritesWithin false) record { high = λ v. h; half = λ v. h; low = λ rs v. h; up = h } v
 
 -- ---- code that moves the stack pointer may write what other code may
-any-front : (p : ℕ → Bool) (xs ys : List ℕ) → list_any p xs ≡ true → list_any p (xs ++ ys) ≡ true
-any-front p [] ys h = cc
-any-front p (x ∷ xs) ys h = by (p x) (any-front p xs ys) h
-  where
-    by : (b : Bool) → (list_any p xs ≡ true → list_any p (xs ++ ys) ≡ true) → (b || list_any p xs) ≡ true → (b || list_any p (xs ++ ys)) ≡ true
-    by true rest h = refl
-    by false rest h = rest h
-
 moving : (rd : ℕ) → In rd → is_outside Riscv64 true rd ≡ false
 moving rd h = by (list_any (nat_eq rd) (written_registers Riscv64 false)) (list_any (nat_eq rd) (written_registers Riscv64 true)) h
-    (any-front (nat_eq rd) (written_registers Riscv64 false) (stack_register Riscv64 ∷ []))
+    (lists.any-front (nat_eq rd) (written_registers Riscv64 false) (stack_register Riscv64 ∷ []))
   where
     by : (b c : Bool) → not b ≡ false → (b ≡ true → c ≡ true) → not c ≡ false
     by true c h k = ap not (k refl)

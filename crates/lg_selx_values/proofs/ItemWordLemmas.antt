@@ -1,17 +1,15 @@
 -- Bytes that stay where fixes are patched, and fields that were patched.
-use Rattle.std.proofs.Common.{◌≡◌, ℕ, suc, ◌+◌, ◌-◌, ◌%◌, ◌^◌, ◌<◌, ◌≤◌, List, [], ◌∷◌, ◌++◌, length, take, drop, get_or, Bool, true, false, nat_lt, ℤ, pos, negsuc, refl, sym, ap, ◌∙◌, subst, arith, length-drop, length-take, length-append, ⊎_elim}
+use Rattle.std.proofs.Common.{◌≡◌, ℕ, suc, ◌+◌, ◌-◌, ◌%◌, ◌^◌, ◌<◌, ◌≤◌, List, [], ◌∷◌, ◌++◌, length, drop, get_or, Bool, true, false, nat_lt, ℤ, pos, negsuc, refl, sym, ap, ◌∙◌, subst, arith, length-drop, length-append}
 use Rattle.std.specs.Prelude.{◌==◌, if◌then◌else◌, slice_index}
 use Rattle.std.specs.Int.{w32, to_le_bytes}
 use Rattle.std.proofs.lemmas.Int.{ints}
 use Rattle.std.proofs.lemmas.Bool.Decides.{nat_tests}
-use Rattle.std.proofs.lemmas.Bool.{cases_lt}
-use Rattle.std.proofs.lemmas.List.{take-append-drop, drop-drop, drop_more, get_or-drop, get_or-take, get_or_past}
-use Rattle.std.proofs.lemmas.Nat.{le_bytes_4}
+use Rattle.std.proofs.lemmas.List.{drop_more}
 use Rattle.lg_base.specs.Fields.{signed, bits_of}
 use Rattle.lg_base.specs.WordFronts.{word_at}
 use Rattle.lg_base.proofs.NumberLemmas.{bits_of-signed}
-use Rattle.lg_base.proofs.WordFrontLemmas.{word_is}
 use Rattle.lg_cpu.specs.Laws.{AreBytes}
+use Rattle.lg_sel.proofs.WordLemmas.{split-word}
 use Rattle.lg_x86.specs.Spelling.{short_bytes, long_bytes, extension, spelling, IsNumber8, IsNumber32}
 use Rattle.lg_x86.specs.Rows.{movi32_row}
 use Rattle.lg_x86.specs.declared.instruction.Instr.TheVariants.{Movi32}
@@ -37,21 +35,6 @@ pub reaches : (xs rest bytes : List ℕ) (p : ℕ) → 0 < length xs → drop p 
 reaches xs rest bytes p some e = let d = length-drop p bytes in let a : length (drop p bytes) ≡ length xs + length rest = ap length e ∙ length-append xs rest in omega (arith, d, a, some)
 
 -- ---- words
-front-small : (bytes : List ℕ) → ((i : ℕ) → get_or bytes i 0 < 256) → (i : ℕ) → get_or (take 4 bytes) i 0 < 256
-front-small bytes small i = ⊎_elim
-    (λ lt. let e = get_or-take 4 bytes i 0 lt in omega (arith, e, small i))
-    (λ ge. let e = get_or_past (take 4 bytes) i 0 (omega (arith, length-take 4 bytes)) in omega (arith, e))
-    (cases_lt i 4)
-
--- the bytes from a place on are those of the word there, and those after it
-pub split-word : (bytes : List ℕ) (p : ℕ) → AreBytes bytes → p + 4 ≤ length bytes → drop p bytes ≡ to_le_bytes w32 (word_at bytes p) ++ drop (p + 4) bytes
-split-word bytes p small long =
-    let front : List ℕ = take 4 (drop p bytes) in
-    let l : length front ≡ 4 = length-take 4 (drop p bytes) ∙ (let d = length-drop p bytes in omega (arith, d)) in
-    let s : (i : ℕ) → get_or front i 0 < 256 = λ i. front-small (drop p bytes) (λ k. rw get_or-drop (small (p + k))) i in
-    let e : to_le_bytes w32 (word_at bytes p) ≡ front = le_bytes_4 front (word_at bytes p) l s (sym (word_is bytes p long)) in
-    sym (take-append-drop 4 (drop p bytes)) ∙ (λ j. sym e j ++ drop-drop 4 p bytes j)
-
 word-small : (bytes : List ℕ) (q : ℕ) → AreBytes bytes → word_at bytes q < 2 ^ 32
 word-small bytes q small = let a = small q in let b = small (q + 1) in let c = small (q + 2) in let d = small (q + 3) in omega (arith, a, b, c, d)
 

@@ -1,5 +1,5 @@
 -- Nodes whose code gives registers the words of their operations.
-use Rattle.std.proofs.Common.{◌≡◌, ◌≢◌, ℕ, ◌+◌, ◌-◌, ◌<◌, ◌≤◌, ◌⊎◌, inl, inr, Bool, true, false, List, [], ◌∷◌, Some, refl, ap, ◌∙◌, length, length-append, arith}
+use Rattle.std.proofs.Common.{◌≡◌, ◌≢◌, ℕ, ◌+◌, ◌-◌, ◌≤◌, ◌⊎◌, inl, inr, Bool, true, false, List, Some, refl, ap, ◌∙◌, arith}
 use Rattle.std.specs.Prelude.{if◌then◌else◌}
 use Rattle.lg_base.specs.Layout.{frame_pointer}
 use Rattle.lg_base.specs.Words.{add_words}
@@ -20,7 +20,6 @@ use Rattle.lg_meaning.specs.Steps.{Undefined, on, with_reg, bit_word, goes_with_
 use Rattle.lg_meaning.specs.Texts.{step}
 use Rattle.lg_temp.specs.Abis.{register_of}
 use Rattle.lg_temp.specs.declared.choice.Choice.{Choice}
-use Rattle.lg_carry.specs.Blocks.{spellings}
 use Rattle.lg_carry.specs.FinalNodes.{Code}
 use Rattle.lg_carry.specs.Processors.{Seen}
 use Rattle.lg_carry.specs.TextNodes.{IsInText}
@@ -29,9 +28,7 @@ use Rattle.lg_carry.proofs.OfNodes.RegisterLemmas.{same-self}
 use Rattle.lg_carry.specs.Values.Computers.{Held}
 use Rattle.lg_carry.specs.Values.ValueNodes.{binary_node}
 use Rattle.lg_carry.proofs.OfValues.ResultLemmas.{or-false, or-middle, step-is, TwoGiven, two-given, holds-one, kept-apart}
-use Rattle.lg_x86.specs.Spelling.{spelling}
 use Rattle.lg_x86.specs.declared.instruction.Instr.{Instr}
-use Rattle.lg_x86.proofs.SizeLemmas.{sized}
 use Rattle.lg_selx_values.specs.Processor.MakingNodes.{StepsBy, MakesNode}
 use Rattle.lg_selx_values.specs.Processor.X86Computers.{x86_scratch}
 use Rattle.lg_selx_values.specs.WordLaws.{IsInFrame, MakesWithCarry}

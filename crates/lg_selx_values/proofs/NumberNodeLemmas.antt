@@ -1,5 +1,5 @@
 -- Nodes that compute values from a register and a word of the text.
-use Rattle.std.proofs.Common.{◌≡◌, ◌≢◌, ℕ, ◌^◌, ◌<◌, ◌≤◌, Bool, true, false, [], Some, refl, sym, ap, ◌∙◌, subst, length, arith, ◌==◌}
+use Rattle.std.proofs.Common.{◌≡◌, ◌≢◌, ℕ, ◌^◌, ◌<◌, ◌≤◌, Bool, true, false, [], Some, refl, sym, ap, ◌∙◌, subst, length, arith}
 use Rattle.lg_base.specs.Flags.{carry_of}
 use Rattle.lg_base.specs.declared.target.Target.TheVariants.{X86_64}
 use Rattle.lg_op.specs.declared.op.Op.TheVariants as op
@@ -18,8 +18,7 @@ use Rattle.lg_carry.specs.Nodes.Straight.{is_taken}
 use Rattle.lg_carry.specs.Values.Computers.{Held}
 use Rattle.lg_carry.specs.Values.ValueNodes.{binary_node}
 use Rattle.lg_carry.proofs.OfValues.ResultLemmas.{or-false}
-use Rattle.lg_base.specs.Words.{is_half, negated}
-use Rattle.lg_selx_values.specs.BinaryCode.{is_near, is_dividend, number_form_code}
+use Rattle.lg_selx_values.specs.BinaryCode.{number_form_code}
 use Rattle.lg_selx_values.specs.CarryCode.{carry_number_code}
 use Rattle.lg_selx_values.specs.Needs.{value_needs}
 use Rattle.lg_selx_values.specs.NumberWords.{number_spoils}
@@ -50,9 +49,6 @@ needs-small o r e = cc
 
 needs-few : (o : BinaryOp) → length (value_needs (op.Binary o last_operand.Immediate)) ≤ 3
 needs-few binary.Div = omega arith
-needs-few binary.DivU = omega arith
-needs-few binary.Rem = omega arith
-needs-few binary.RemU = omega arith
 needs-few o = omega arith
 
 pub binary-numbers-carry : BinaryNumbersCarry

@@ -3,7 +3,7 @@ use Rattle.std.proofs.Common.{◌≡◌, ◌≢◌, ℕ, ◌<◌, Bool, true, fa
 use Rattle.std.specs.Prelude.{◌==◌, if◌then◌else◌}
 use Rattle.lg_base.specs.declared.target.Target.TheVariants.{X86_64}
 use Rattle.lg_op.specs.declared.operand.Reg.{Reg}
-use Rattle.lg_op.specs.declared.operand.Reg.TheVariants.{R0, R1, R2, V0, V1, V2, Fp}
+use Rattle.lg_op.specs.declared.operand.Reg.TheVariants.{R0, Fp}
 use Rattle.lg_temp.specs.Abis.{register_of}
 use Rattle.lg_x86.specs.declared.instruction.Instr.{Instr}
 use Rattle.lg_x86.specs.declared.instruction.Instr.TheVariants.{RmReg}
@@ -66,13 +66,8 @@ moved-last d a w f bytes = by (d == a) refl
 
 -- ---- registers that correspond to portable ones
 pub register-not-frame : (d : Reg) → d ≢ Fp → register_of X86_64 d ≢ 5
-register-not-frame R0 h = λ e. absurd (omega (arith, e))
-register-not-frame R1 h = λ e. absurd (omega (arith, e))
-register-not-frame R2 h = λ e. absurd (omega (arith, e))
-register-not-frame V0 h = λ e. absurd (omega (arith, e))
-register-not-frame V1 h = λ e. absurd (omega (arith, e))
-register-not-frame V2 h = λ e. absurd (omega (arith, e))
 register-not-frame Fp h = absurd (h refl)
+register-not-frame r h = λ e. absurd (omega (arith, e))
 
 -- neither rcx nor rdx, the stack pointer or a register of no use
 pub record IsPortable (r : ℕ) : Type 0 where

@@ -1,6 +1,6 @@
 -- Nodes that compute values from registers are carried by their code.
-use Rattle.std.proofs.Common.{◌≡◌, ◌≢◌, ℕ, zero, suc, ◌<◌, ◌≤◌, Bool, true, false, List, [], ◌∷◌, ◌++◌, refl, sym, ap, ◌∙◌, subst, length, arith, length-append}
-use Rattle.std.specs.Prelude.{◌==◌, ◌||◌, if◌then◌else◌}
+use Rattle.std.proofs.Common.{◌≡◌, ◌≢◌, ℕ, suc, ◌<◌, ◌≤◌, Bool, true, false, List, [], ◌∷◌, refl, sym, ap, ◌∙◌, subst, length, arith}
+use Rattle.std.specs.Prelude.{◌==◌, ◌||◌}
 use Rattle.lg_base.specs.declared.target.Target.TheVariants.{X86_64}
 use Rattle.lg_op.specs.declared.op.Op.TheVariants as op
 use Rattle.lg_op.specs.declared.op.BinaryOp.{BinaryOp}
@@ -16,8 +16,6 @@ use Rattle.lg_live.specs.Uses.{is_read}
 use Rattle.lg_meaning.specs.Steps.{bit_word}
 use Rattle.lg_x86.specs.Spelling.{IsInstr}
 use Rattle.lg_x86.specs.declared.instruction.Instr.{Instr}
-use Rattle.lg_x86.specs.declared.instruction.Instr.TheVariants.{RmReg}
-use Rattle.lg_x86.specs.declared.instruction.RmRegOp.TheVariants.{Mov}
 use Rattle.lg_temp.specs.declared.choice.Need.TheVariants.{Only}
 use Rattle.lg_temp.specs.declared.choice.Choice.{Choice}
 use Rattle.lg_temp.specs.Abis.{register_of}
@@ -36,11 +34,10 @@ use Rattle.lg_selx_values.specs.Processor.X86Computers.{x86_scratch}
 use Rattle.lg_selx_values.specs.Processor.X86Rows.{x86_processor, x86_rows, can_save}
 use Rattle.lg_selx_values.proofs.OfProcessor.IsaLemmas.{is-isa}
 use Rattle.lg_selx_values.proofs.OfProcessor.MakingNodeLemmas.{making-nodes-compute}
-use Rattle.lg_selx_values.specs.BinaryCode.{high_half, division, is_dividend, divided, register_code}
+use Rattle.lg_selx_values.specs.BinaryCode.{register_code}
 use Rattle.lg_selx_values.specs.CarryCode.{carry_register_code}
 use Rattle.lg_selx_values.specs.Needs.{value_needs, spoils}
 use Rattle.lg_selx_values.specs.RegisterNodes.{IsChosen, binary_registers, BinaryRegistersCarry, FlagRegistersCarry}
-use Rattle.lg_selx_values.specs.Scratch.{moved, again}
 use Rattle.lg_selx_values.specs.WordLaws.{MakesWithCarry}
 use Rattle.lg_selx_values.proofs.BinaryCodeLemmas.{binaries-are-made}
 use Rattle.lg_selx_values.proofs.CarryCodeLemmas.{carried-are-made}
@@ -50,10 +47,8 @@ use Rattle.lg_selx_values.proofs.RegisterLemmas.{register-portable, register-not
 
 -- ---- needs
 spare : (x : ℕ) → x < 3 → IsSpare X86_64 x × (can_save x ≡ true)
-spare zero lt = (record { pointer = λ e. cc; stack = λ e. cc; link = λ y e. cc; carry = λ y e. cc }, refl)
-spare (suc zero) lt = (record { pointer = λ e. cc; stack = λ e. cc; link = λ y e. cc; carry = λ y e. cc }, refl)
-spare (suc (suc zero)) lt = (record { pointer = λ e. cc; stack = λ e. cc; link = λ y e. cc; carry = λ y e. cc }, refl)
 spare (suc (suc (suc x))) lt = absurd (omega (arith, lt))
+spare x lt = (record { pointer = λ e. cc; stack = λ e. cc; link = λ y e. cc; carry = λ y e. cc }, refl)
 
 pub two-named : (r : ℕ) → ((r == 0) || (r == 2)) ≡ true → is_named (Only 0 ∷ Only 2 ∷ []) r ≡ true
 two-named r e = grind (arith, e)
@@ -80,12 +75,6 @@ needs-small o r e = cc
 
 needs-few : (o : BinaryOp) → length (value_needs (op.Binary o last_operand.Register)) ≤ 3
 needs-few binary.Lsh = omega arith
-needs-few binary.Rsh = omega arith
-needs-few binary.RshU = omega arith
-needs-few binary.Div = omega arith
-needs-few binary.DivU = omega arith
-needs-few binary.Rem = omega arith
-needs-few binary.RemU = omega arith
 needs-few o = omega arith
 
 -- ---- a node whose code computes it is carried

@@ -75,16 +75,10 @@ turned-computed d a n w =
 pub unary-computed : (o : UnaryOp) (d a : ℕ) (w : Held) → (by-all (unary_code o d a) w).registers ≡ put w.registers d (unary_value o (w.registers a))
 unary-computed unary.Neg d a w = ap (λ z. z.registers) (moved-computed d a (Unary Neg d ∷ []) w) ∙ put-again w.registers d (w.registers a) negated
 unary-computed unary.Com d a w = ap (λ z. z.registers) (moved-computed d a (Unary Not d ∷ []) w) ∙ put-again w.registers d (w.registers a) complement
-unary-computed unary.Mov d a w = refl
-unary-computed unary.ExtrC d a w = refl
-unary-computed unary.ExtrUc d a w = refl
-unary-computed unary.ExtrS d a w = refl
-unary-computed unary.ExtrUs d a w = refl
-unary-computed unary.ExtrI d a w = refl
-unary-computed unary.ExtrUi d a w = refl
 unary-computed unary.HtonrUs d a w = turned-computed d a 48 w ∙ ap (put w.registers d) (swapped-16 (w.registers a))
 unary-computed unary.HtonrUi d a w = turned-computed d a 32 w ∙ ap (put w.registers d) (swapped-32 (w.registers a))
 unary-computed unary.HtonrUl d a w = ap (λ z. z.registers) (moved-computed d a (Bswap d ∷ []) w) ∙ put-again w.registers d (w.registers a) (λ v. swapped v 8)
+unary-computed o d a w = refl
 
 -- code that computes
 abbrev Works : List Instr → Type 0
@@ -171,13 +165,8 @@ va-starts-carry code trash c i frame d k line live choices named small chosen =
     (λ w. ap (λ z. z.registers rd) (is w) ∙ put-same w.registers rd k)))
 
 retval-computed : (t : ValueType) (d : ℕ) (w : Held) → (by-all (retval_code t d) w).registers ≡ put w.registers d (extended_by_type t (w.registers 0))
-retval-computed value_type.Char d w = refl
-retval-computed value_type.UnsignedChar d w = refl
-retval-computed value_type.Short d w = refl
-retval-computed value_type.UnsignedShort d w = refl
-retval-computed value_type.Int d w = refl
-retval-computed value_type.UnsignedInt d w = refl
 retval-computed value_type.Long d w = ap (λ z. (by-all z w).registers) (sym (append-nil (moved d 0))) ∙ ap (λ z. z.registers) (moved-computed d 0 [] w)
+retval-computed t d w = refl
 
 retval-works : (t : ValueType) (d : ℕ) → Works (retval_code t d)
 retval-works value_type.Char d = refl

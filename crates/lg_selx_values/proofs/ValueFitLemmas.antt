@@ -1,9 +1,8 @@
 -- The items of a node that are emitted.
-use Rattle.std.proofs.Common.{ℕ, zero, suc, ◌+◌, ◌-◌, ◌*◌, ◌^◌, ◌<◌, ◌≤◌, Bool, true, false, List, [], ◌∷◌, length, refl, arith}
-use Rattle.std.specs.Prelude.{⊤, nat_lt, if◌then◌else◌, pos}
+use Rattle.std.proofs.Common.{ℕ, zero, suc, ◌+◌, ◌-◌, ◌*◌, ◌^◌, ◌<◌, ◌≤◌, false, List, [], ◌∷◌, length, refl, arith}
+use Rattle.std.specs.Prelude.{⊤, pos}
 use Rattle.std.proofs.lemmas.Int.{ints}
 use Rattle.lg_base.specs.HostNames.{host_address}
-use Rattle.lg_base.specs.Words.{signed_view, is_half}
 use Rattle.lg_base.specs.declared.host_name.HostName.{HostName}
 use Rattle.lg_base.specs.declared.target.Target.TheVariants.{X86_64}
 use Rattle.lg_op.specs.declared.op.Op.{Op}
@@ -20,20 +19,20 @@ use Rattle.lg_temp.specs.Abis.{register_of}
 use Rattle.lg_temp.specs.Chosen.{around}
 use Rattle.lg_x86.specs.Spelling.{IsNumber32}
 use Rattle.lg_x86.specs.declared.instruction.Instr.{Instr}
-use Rattle.lg_x86.specs.declared.instruction.Instr.TheVariants.{Movi32, Movs32, Movi64}
 use Rattle.lg_selx_values.specs.Processor.Destinations.{WritesWithin}
 use Rattle.lg_selx_values.specs.Processor.Numbers.{number_row}
 use Rattle.lg_selx_values.specs.Processor.X86Rows.{slot_offset}
 use Rattle.lg_selx_values.proofs.OfProcessor.NumberCodeLemmas.{half-number}
+use Rattle.lg_sel.proofs.LabelLemmas.{operand-below}
 use Rattle.lg_sel.specs.Holes.{Each}
 use Rattle.lg_sel.proofs.ListLemmas.{each-append}
 use Rattle.lg_selx_values.specs.declared.items.Item.{Item}
 use Rattle.lg_selx_values.specs.declared.items.Item.TheVariants.{One, Address}
 use Rattle.lg_selx_values.specs.Items.{words_in, ones, StaysWithin, NameLabels}
 use Rattle.lg_selx_values.specs.GoodItems.{Fine, IsGood, IsGoodItem}
-use Rattle.lg_selx_values.proofs.GoodLemmas.{number-good, good-items-are-appendable}
+use Rattle.lg_selx_values.proofs.GoodLemmas.{number-within, number-good, good-items-are-appendable}
 use Rattle.lg_selx_values.proofs.ItemLemmas.{words_append, words-ones, names-append, names-ones}
-use Rattle.lg_selx_values.proofs.WithinLemmas.{In, portable}
+use Rattle.lg_selx_values.proofs.WithinLemmas.{portable}
 use Rattle.lg_selx_values.specs.UnaryCode.{unary_code, retval_code}
 use Rattle.lg_carry.specs.Nodes.Operands.{HasWord, HaveWords, NamesBelow, NameBelow}
 use Rattle.lg_selx_values.specs.ValueFits.{ValueItemsFit, ValueItemsName, ValueItemsStay}
@@ -191,14 +190,6 @@ value-items-fit frame n live staged choices low high numbers h =
     record { few = well.few; slots = slots-of choices well.saved; fit = items.fit; short = omega (arith, few, two); small = omega (arith, few, two, bytes); block = items.block }
 
 -- ---- the conventions
-number-within : (r v : ℕ) → In r → WritesWithin false (number_row r v)
-number-within r v h = by (nat_lt v (2 ^ 32)) (is_half v)
-  where
-    by : (b c : Bool) → WritesWithin false (if b then Movi32 r v else if c then Movs32 r (signed_view v) else Movi64 r v)
-    by true c = (h, tt)
-    by false true = (h, tt)
-    by false false = (h, tt)
-
 rows-within : (frame : ℕ) → HoldsOfRows frame (WritesWithin false) (λ v. ⊤)
 rows-within frame = record {
   two = λ o rm reg f l. (f.1, tt);
@@ -248,11 +239,6 @@ wide-names labels o frame d e a (operand.Number v) = names-ones labels (wide_num
 wide-names labels o frame d e a (operand.Host name) = names-ones labels (wide_number_code o frame d e a (host_address name))
 wide-names labels o frame d e a (operand.Label l) = tt
 wide-names labels o frame d e a (operand.Slot k) = tt
-
-operand-below : (labels : ℕ) (xs : List Operand) (i : ℕ) → NameBelow labels xs → NamesBelow labels (operand_in xs i)
-operand-below labels [] i h = tt
-operand-below labels (x ∷ xs) zero h = h.0
-operand-below labels (x ∷ xs) (suc i) h = operand-below labels xs i h.1
 
 body-names : (labels frame : ℕ) (o : Op) (xs : List Operand) → NameBelow labels xs → NameLabels labels (body_items frame o xs)
 body-names labels frame (op.Binary o last) xs h = binary-names labels o frame (register_in xs 0) (register_in xs 1) (operand_in xs 2)

@@ -1,10 +1,9 @@
 -- Nodes with two results.
-use Rattle.std.proofs.Common.{◌≡◌, ◌≢◌, ℕ, ◌<◌, ◌⊎◌, inl, inr, Bool, true, false, List, [], ◌∷◌, Some, refl, sym, ◌∙◌, length, arith}
+use Rattle.std.proofs.Common.{◌≡◌, ◌≢◌, ℕ, ◌<◌, ◌⊎◌, inl, inr, Bool, true, false, List, [], ◌∷◌, Some, refl, sym, ◌∙◌, arith}
 use Rattle.std.specs.Prelude.{◌==◌, ◌||◌}
 use Rattle.std.proofs.lemmas.Bool.{or_left, or_right, or_cases}
 use Rattle.lg_base.specs.declared.target.Target.TheVariants.{X86_64}
 use Rattle.lg_op.specs.declared.op.WideOp.{WideOp}
-use Rattle.lg_op.specs.declared.op.WideOp.TheVariants as wide
 use Rattle.lg_op.specs.declared.op.LastOperand.{LastOperand}
 use Rattle.lg_op.specs.declared.op.LastOperand.TheVariants as last_operand
 use Rattle.lg_op.specs.declared.node.Node.{Node}

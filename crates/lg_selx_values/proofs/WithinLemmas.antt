@@ -1,6 +1,6 @@
 -- Instructions and items that write no register that is outside of the conventions.
 use Rattle.std.proofs.Common.{◌≡◌, ℕ, false, List, ◌++◌, refl, Bool, true, [], ◌∷◌, ap, pos}
-use Rattle.std.specs.Prelude.{◌||◌, not, nat_eq}
+use Rattle.std.specs.Prelude.{not, nat_eq}
 use Rattle.std.specs.List.{list_any}
 use Rattle.lg_base.specs.Conventions.{stack_register}
 use Rattle.lg_base.specs.declared.target.Target.TheVariants.{X86_64}
@@ -38,17 +38,9 @@ pub stay-ones : (is : List Instr) → Within is → StayWithin false (ones is)
 stay-ones = lists.each-ones (StaysWithin false) One (WritesWithin false) (λ i h. h)
 
 -- ---- code that moves the stack pointer may write what other code may
-any-front : (p : ℕ → Bool) (xs ys : List ℕ) → list_any p xs ≡ true → list_any p (xs ++ ys) ≡ true
-any-front p [] ys h = cc
-any-front p (x ∷ xs) ys h = by (p x) (any-front p xs ys) h
-  where
-    by : (b : Bool) → (list_any p xs ≡ true → list_any p (xs ++ ys) ≡ true) → (b || list_any p xs) ≡ true → (b || list_any p (xs ++ ys)) ≡ true
-    by true rest h = refl
-    by false rest h = rest h
-
 moving : (rd : ℕ) → In rd → is_outside X86_64 true rd ≡ false
 moving rd h = by (list_any (nat_eq rd) (written_registers X86_64 false)) (list_any (nat_eq rd) (written_registers X86_64 true)) h
-    (any-front (nat_eq rd) (written_registers X86_64 false) (stack_register X86_64 ∷ []))
+    (lists.any-front (nat_eq rd) (written_registers X86_64 false) (stack_register X86_64 ∷ []))
   where
     by : (b c : Bool) → not b ≡ false → (b ≡ true → c ≡ true) → not c ≡ false
     by true c h k = ap not (k refl)

@@ -56,18 +56,7 @@ never-sum false b e = cc
 
 pub host-small : (name : HostName) → host_address name < 2 ^ 64
 host-small host.Printf = omega arith
-host-small host.Puts = omega arith
-host-small host.Putchar = omega arith
-host-small host.Exit = omega arith
-host-small host.Abort = omega arith
-host-small host.Atoi = omega arith
-host-small host.Malloc = omega arith
-host-small host.Calloc = omega arith
-host-small host.Free = omega arith
-host-small host.Memcpy = omega arith
-host-small host.Memset = omega arith
-host-small host.Strlen = omega arith
-host-small host.Strcmp = omega arith
+host-small name = omega arith
 
 -- ---- the nodes
 module _ {Q I : Type 0} (R : Rows Q I) (scratch : ℕ → Bool) (fits : I → Type 0) (ready : HostName → (ℕ → ℕ) → Bool) (saved : ℕ) (C : Codes I)

@@ -79,10 +79,8 @@ module _ {Q : Type 0} (P : Processor Q) (link size homes kept sp : ℕ) (linked 
       (subst (λ a. HasWord (P.seen u).bytes a (w (slice_index (take kept kept-all) v))) (omega (arith, room, lt)) word)
     where
       kept-is : (j : ℕ) → j < 3 → slice_index kept-all j ≡ portable_register P.target (j + 3)
-      kept-is zero l = refl
-      kept-is (suc zero) l = refl
-      kept-is (suc (suc zero)) l = refl
       kept-is (suc (suc (suc j))) l = absurd (omega (arith, l))
+      kept-is j l = refl
 
   home : (j : ℕ) → j < homes → j < length (argument_registers P.target)
       → HasWord (P.seen u).bytes (home_word (frame_pointer sp) j) (w (slice_index (argument_registers P.target) j))

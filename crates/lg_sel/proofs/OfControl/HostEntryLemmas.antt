@@ -8,7 +8,7 @@ use Rattle.lg_base.specs.declared.flags.Flags.{Flags}
 use Rattle.lg_base.specs.declared.host_name.HostName.{HostName}
 use Rattle.lg_base.specs.declared.host_name.HostName.TheVariants as host
 use Rattle.lg_base.specs.declared.target.Target.{Target}
-use Rattle.lg_base.specs.declared.target.Target.TheVariants.{X86_64, Aarch64, Riscv64}
+use Rattle.lg_base.specs.declared.target.Target.TheVariants.{X86_64}
 use Rattle.lg_host.specs.Host.{Host, Gives, Exits}
 use Rattle.lg_cpu.specs.HostSteps.{put, clobbered, after_call, answer_at, returned}
 use Rattle.lg_cpu.specs.Laws.{IsSound}
@@ -22,60 +22,25 @@ use Rattle.lg_sel.proofs.OfControl.ChainLemmas.{runs-there, went}
 -- ---- the entries
 pub entry-aligned : (name : HostName) → host_address name % 4 ≡ 0
 entry-aligned host.Printf = refl
-entry-aligned host.Puts = refl
-entry-aligned host.Putchar = refl
-entry-aligned host.Exit = refl
-entry-aligned host.Abort = refl
-entry-aligned host.Atoi = refl
-entry-aligned host.Malloc = refl
-entry-aligned host.Calloc = refl
-entry-aligned host.Free = refl
-entry-aligned host.Memcpy = refl
-entry-aligned host.Memset = refl
-entry-aligned host.Strlen = refl
-entry-aligned host.Strcmp = refl
+entry-aligned name = refl
 
 pub entry-runs : (name : HostName) → status_of (arrived (host_address name)) ≡ Running
 entry-runs host.Printf = refl
-entry-runs host.Puts = refl
-entry-runs host.Putchar = refl
-entry-runs host.Exit = refl
-entry-runs host.Abort = refl
-entry-runs host.Atoi = refl
-entry-runs host.Malloc = refl
-entry-runs host.Calloc = refl
-entry-runs host.Free = refl
-entry-runs host.Memcpy = refl
-entry-runs host.Memset = refl
-entry-runs host.Strlen = refl
-entry-runs host.Strcmp = refl
+entry-runs name = refl
 
 pub entry-near : (name : HostName) → host_address name < 2 ^ 62
 entry-near host.Printf = omega arith
-entry-near host.Puts = omega arith
-entry-near host.Putchar = omega arith
-entry-near host.Exit = omega arith
-entry-near host.Abort = omega arith
-entry-near host.Atoi = omega arith
-entry-near host.Malloc = omega arith
-entry-near host.Calloc = omega arith
-entry-near host.Free = omega arith
-entry-near host.Memcpy = omega arith
-entry-near host.Memset = omega arith
-entry-near host.Strlen = omega arith
-entry-near host.Strcmp = omega arith
+entry-near name = omega arith
 
 -- ---- the registers after a call
 -- a call keeps the stack pointer, and not the register of the result
 stack-kept : (target : Target) → is_kept target (stack_register target) ≡ true
 stack-kept X86_64 = refl
-stack-kept Aarch64 = refl
-stack-kept Riscv64 = refl
+stack-kept target = refl
 
 result-lost : (target : Target) → is_kept target (result_register target) ≡ false
 result-lost X86_64 = refl
-result-lost Aarch64 = refl
-result-lost Riscv64 = refl
+result-lost target = refl
 
 not-both : (b : Bool) → b ≡ false → b ≡ true → ⊥
 not-both b f t = cc

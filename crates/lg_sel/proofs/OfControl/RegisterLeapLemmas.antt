@@ -1,5 +1,5 @@
 -- Jumps and calls of the word of a register are carried.
-use Rattle.std.proofs.Common.{◌≡◌, ◌≢◌, ℕ, zero, suc, ◌+◌, ◌<◌, ◌≤◌, ◌⊎◌, inl, inr, Bool, true, false, List, [], Option, Some, None, refl, sym, ap, ◌∙◌, subst}
+use Rattle.std.proofs.Common.{◌≡◌, ◌≢◌, ℕ, suc, ◌+◌, ◌<◌, ◌≤◌, ◌⊎◌, inl, inr, Bool, true, false, List, [], Option, Some, None, refl, sym, ap, ◌∙◌, subst}
 use Rattle.std.proofs.Common.{arith, length}
 use Rattle.std.specs.Prelude.{slice_get}
 use Rattle.lg_carry.proofs.TurnLemmas.{call-moves}
@@ -193,10 +193,8 @@ module _ {Q I : Type 0} (R : Rows Q I) (ready : HostName → (ℕ → ℕ) → B
       (ap (λ m. step_at (text c.nodes c.shape c.addresses) m s) (ap (slice_get c.nodes.nodes) at ∙ t.here))
     where
       saved : (v : ℕ) → v < 3 → numbered (is_written (callr_node a line)) (v + 3) ≡ false
-      saved zero lt = refl
-      saved (suc zero) lt = refl
-      saved (suc (suc zero)) lt = refl
       saved (suc (suc (suc v))) lt = absurd (omega (arith, lt))
+      saved v lt = refl
 
   pub register-finishes-carry : RegisterLeapsCarry R fits code finishr_node
   register-finishes-carry c i a line size S w t is-frame k live s returns out q at st =
@@ -209,7 +207,5 @@ module _ {Q I : Type 0} (R : Rows Q I) (ready : HostName → (ℕ → ℕ) → B
       (ap (λ m. step_at (text c.nodes c.shape c.addresses) m s) (ap (slice_get c.nodes.nodes) at ∙ t.here))
     where
       saved : (v : ℕ) → v < 3 → numbered (is_written (finishr_node a line)) (v + 3) ≡ false
-      saved zero lt = refl
-      saved (suc zero) lt = refl
-      saved (suc (suc zero)) lt = refl
       saved (suc (suc (suc v))) lt = absurd (omega (arith, lt))
+      saved v lt = refl

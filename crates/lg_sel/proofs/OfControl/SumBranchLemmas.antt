@@ -50,13 +50,8 @@ use Rattle.lg_carry.proofs.OfNodes.StraightLemmas.{text-keeps, frame-held}
 -- ---- the operand that is changed
 -- it is a register, and not FP
 updated : (a : Reg) (b : Bool) → (admits form.Update (operand.Reg a) && b) ≡ true → a ≢ Fp
-updated R0 b h = λ z. cc
-updated R1 b h = λ z. cc
-updated R2 b h = λ z. cc
-updated V0 b h = λ z. cc
-updated V1 b h = λ z. cc
-updated V2 b h = λ z. cc
 updated Fp b h = cc
+updated a b h = λ z. cc
 
 or-false : (x : Bool) → ((x || false) || false) ≡ x
 or-false true = refl

@@ -7,7 +7,7 @@ use Rattle.lg_base.specs.Spaces.{mapped, loaded, stored}
 use Rattle.lg_base.specs.Words.{add_words}
 use Rattle.lg_base.specs.declared.fault.FaultKind.TheVariants.{Memory}
 use Rattle.lg_a64.specs.declared.instruction.Instr.{Instr}
-use Rattle.lg_a64.specs.declared.instruction.Instr.TheVariants.{Reg, Imm, Wide, MulAdd, Bitfield, Csinc, Reverse, Scaled, Ldrx, Unscaled, Branch, BranchIf, BranchReg, Nop}
+use Rattle.lg_a64.specs.declared.instruction.Instr.TheVariants.{Scaled, Ldrx, Unscaled, Branch, BranchIf, BranchReg}
 use Rattle.lg_a64.specs.declared.instruction.ScaledOp.{ScaledOp}
 use Rattle.lg_a64.specs.declared.instruction.ScaledOp.TheVariants.{Ldr64, Str64, Ldr32, Ldrs32, Str32, Ldr16, Ldrs16, Str16, Ldr8, Ldrs8, Str8}
 use Rattle.lg_a64.specs.declared.instruction.UnscaledOp.{UnscaledOp}
@@ -75,17 +75,10 @@ steady_branch_reg Br target q = record { silent = refl; mark = refl; grows = λ 
 steady_branch_reg o target q = record { silent = refl; mark = refl; grows = λ a h. h; next = λ s e. cc }
 
 pub steady_act : (i : Instr) (q : CpuState) → Steady (is_straight i) q (act i q)
-steady_act (Reg op rd rn rm) q = still q _ refl refl refl refl
-steady_act (Imm op rd rn imm shifted) q = still q _ refl refl refl refl
-steady_act (Wide op rd imm hw) q = still q _ refl refl refl refl
-steady_act (MulAdd op rd rn rm ra) q = still q _ refl refl refl refl
-steady_act (Bitfield op rd rn immr imms) q = still q _ refl refl refl refl
-steady_act (Csinc rd rn rm cond) q = still q _ refl refl refl refl
-steady_act (Reverse op rd rn) q = still q _ refl refl refl refl
 steady_act (Scaled op rt rn imm) q = steady_scaled op rt (add_words (q.registers rn) (imm * scaled_width op)) q
 steady_act (Ldrx rt rn rm) q = steady_load q rt (add_words (q.registers rn) (read q.registers rm)) 8 false
 steady_act (Unscaled op rt rn imm) q = steady_unscaled op rt (add_words (q.registers rn) (word_of imm)) q
 steady_act (Branch op words) q = steady_branch op (away q.pc (word_of words)) q
 steady_act (BranchIf cond words) q = record { silent = refl; mark = refl; grows = λ a h. h; next = λ s e. cc }
 steady_act (BranchReg op rn) q = steady_branch_reg op (read q.registers rn) q
-steady_act Nop q = still q _ refl refl refl refl
+steady_act i q = still q _ refl refl refl refl

@@ -2,7 +2,7 @@
 use Rattle.lg_sela_values.specs.Processor.A64Touched.{touched}
 use Rattle.lg_carry.proofs.BlockLemmas.{nothing-off}
 use Rattle.lg_carry.specs.Processors.{IsOff}
-use Rattle.std.proofs.Common.{◌≡◌, ◌≢◌, ℕ, ◌*◌, ◌<◌, Bool, true, false, List, [], ◌∷◌, Option, Some, refl, ap, ◌∙◌, arith, length}
+use Rattle.std.proofs.Common.{◌≡◌, ◌≢◌, ℕ, ◌*◌, Bool, true, false, List, [], ◌∷◌, Option, Some, refl, ap, ◌∙◌, arith, length}
 use Rattle.std.specs.Prelude.{not}
 use Rattle.lg_base.specs.Words.{add_words}
 use Rattle.lg_base.specs.declared.flags.Flags.{Flags}

@@ -31,8 +31,8 @@ use Rattle.lg_a64.specs.declared.instruction.BranchOp.TheVariants.{B, Bl}
 use Rattle.lg_a64.specs.declared.instruction.BranchRegOp.{BranchRegOp}
 use Rattle.lg_a64.specs.declared.instruction.BranchRegOp.TheVariants.{Br, Blr, Ret}
 use Rattle.lg_cpu.proofs.A64SoundLemmas.{a64-stays-sound}
-use Rattle.lg_cpu.specs.A64Operators.{reg_value, reg_flags, imm_number, imm_value, imm_flags, csinc_value, condition_holds}
-use Rattle.lg_cpu.specs.A64Step.{read, write, computes, sets_both, sets, loads, load_at, store_at, link_to, branch_to, imm_registers, scaled_width, scaled_effect, unscaled_effect, away, branch_effect, branch_reg_effect, act, decoded, fetch, host_effect, enter_host, effect_at, effect}
+use Rattle.lg_cpu.specs.A64Operators.{reg_value, reg_flags, imm_number, imm_flags, csinc_value, condition_holds}
+use Rattle.lg_cpu.specs.A64Step.{read, write, sets, loads, load_at, store_at, link_to, branch_to, scaled_width, scaled_effect, unscaled_effect, away, branch_effect, branch_reg_effect, act, decoded, fetch, host_effect, enter_host, effect_at, effect}
 use Rattle.lg_cpu.specs.Fetches.{in_code}
 use Rattle.lg_cpu.specs.HostSteps.{answer_at}
 use Rattle.lg_cpu.specs.Laws.{AreBytes}

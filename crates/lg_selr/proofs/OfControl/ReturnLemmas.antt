@@ -212,10 +212,8 @@ module _ (base n k : ℕ) (q : Run CpuState) (frame sp : ℕ) (low : 0x3FF00010 
       words-2 (suc (suc j)) lt few = absurd (omega (arith, lt))
 
       words-3 : (j : ℕ) → j < 3 → s3.state.registers (portable_register Riscv64 (j + 3)) ≡ words-of j
-      words-3 zero few = refl
-      words-3 (suc zero) few = refl
-      words-3 (suc (suc zero)) few = refl
       words-3 (suc (suc (suc j))) few = absurd (omega (arith, few))
+      words-3 j few = refl
 
 -- ---- what leaves the frame after them
 record Leaves (code : List Instr) (q : Run CpuState) (sp back : ℕ) : Type 0 where
@@ -299,10 +297,8 @@ module _ (base n k : ℕ) (q : Run CpuState) (frame sp back : ℕ) (low : 0x3FF0
     }
       where
         words : (j : ℕ) → j < 3 → (left n3).state.registers (portable_register Riscv64 (j + 3)) ≡ q.state.registers (portable_register Riscv64 (j + 3))
-        words zero lt = refl
-        words (suc zero) lt = refl
-        words (suc (suc zero)) lt = refl
         words (suc (suc (suc j))) lt = absurd (omega (arith, lt))
+        words j lt = refl
 
   -- ---- the stack pointer to that word, FP from there, and then the stack pointer again
   module _ (room : k + 5 ≤ n) where
@@ -351,10 +347,8 @@ module _ (base n k : ℕ) (q : Run CpuState) (frame sp back : ℕ) (low : 0x3FF0
     }
       where
         words : (j : ℕ) → j < 3 → (left f4).state.registers (portable_register Riscv64 (j + 3)) ≡ q.state.registers (portable_register Riscv64 (j + 3))
-        words zero lt = refl
-        words (suc zero) lt = refl
-        words (suc (suc zero)) lt = refl
         words (suc (suc (suc j))) lt = absurd (omega (arith, lt))
+        words j lt = refl
 
   leaves : k + length (leaving_code frame) ≤ n → Leaves (leaving_code frame) q sp back
   leaves room = by (nat_lt frame 2048) room

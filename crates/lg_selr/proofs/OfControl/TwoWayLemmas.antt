@@ -14,7 +14,7 @@ use Rattle.lg_op.specs.declared.operand.Operand.{Operand}
 use Rattle.lg_op.specs.declared.operand.Operand.TheVariants as operand
 use Rattle.lg_rv.specs.Spelling.{IsInstr}
 use Rattle.lg_rv.specs.declared.instruction.BranchOp.{BranchOp}
-use Rattle.lg_rv.specs.declared.instruction.BranchOp.TheVariants.{Beq, Bne, Blt, Bge, Bltu, Bgeu}
+use Rattle.lg_rv.specs.declared.instruction.BranchOp.TheVariants.{Bne, Bge, Bgeu}
 use Rattle.lg_rv.specs.declared.instruction.ImmOp.TheVariants.{Jalr}
 use Rattle.lg_rv.specs.declared.instruction.UpperOp.TheVariants.{Auipc}
 use Rattle.lg_rv.specs.declared.instruction.Instr.{Instr}
@@ -115,12 +115,10 @@ twelve-on pc h = grind (arith, h)
 
 -- the turned branch is taken where the other one is not
 turned-taken : (o : BranchOp) (x y : ℕ) → is_taken (turned o) x y ≡ not (is_taken o x y)
-turned-taken Beq x y = refl
 turned-taken Bne x y = sym (twice (x == y))
-turned-taken Blt x y = refl
 turned-taken Bge x y = sym (twice (is_less_signed x y))
-turned-taken Bltu x y = refl
 turned-taken Bgeu x y = sym (twice (is_less x y))
+turned-taken o x y = refl
 
 -- ---- the branch, where what is before it computes
 module _ (code : List ℕ) (trash : ℕ) (small : length code ≤ most_code) (bytes : AreBytes code) (word : trash < 2 ^ 64)

@@ -66,14 +66,11 @@ bits condition.Mc a b = (refl, tt)
 bits o a b = tt
 
 sum-code : (o : BranchSumOp) (a b : ℕ) → In a → Within (sums.sum_code o a b)
-sum-code sum.OverflowAdd a b h = (refl, (refl, (h, (refl, (h, tt)))))
 sum-code sum.OverflowAddU a b h = (refl, (refl, (h, tt)))
-sum-code sum.OverflowSub a b h = (refl, (refl, (h, (refl, (h, tt)))))
 sum-code sum.OverflowSubU a b h = (refl, (h, tt))
-sum-code sum.FitAdd a b h = (refl, (refl, (h, (refl, (h, tt)))))
 sum-code sum.FitAddU a b h = (refl, (refl, (h, tt)))
-sum-code sum.FitSub a b h = (refl, (refl, (h, (refl, (h, tt)))))
 sum-code sum.FitSubU a b h = (refl, (h, tt))
+sum-code o a b h = (refl, (refl, (h, (refl, (h, tt)))))
 
 leads : (r : Reach) (o : BranchOp) (a b : ℕ) (l : Label) → StayWithin false (controls.jump_unless_items r o a b l)
 leads Short o a b l = (tt, tt)

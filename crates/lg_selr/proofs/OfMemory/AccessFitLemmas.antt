@@ -272,10 +272,8 @@ probe u = One (instr.Imm imm.Addi u 0 (pos 0)) ∷ []
 
 good-sound : (x : Item) → IsGoodItem x → IsSoundItem x
 good-sound (One i) h = (h.0, h.1)
-good-sound (items.Branch o rs1 rs2 label) h = absurd h
-good-sound (items.Jump rd label) h = absurd h
-good-sound (items.FarJump rd base label) h = absurd h
 good-sound (items.Address rd label) h = (h.0, h.1)
+good-sound x h = absurd h
 
 items-fit : (n : Node) (bytes : ℕ) (code : ℕ → List Instr) → ((u : ℕ) → Fine u → AreSound (code u)) → (live : Reg → Bool) (staged : List Bool) (choices : List Choice)
     → AreFor (around Riscv64 n live staged) (access_needs bytes) [] (access_needs bytes) choices → AreAccessItems choices (saved_items choices (ones (code (first_taken choices))))

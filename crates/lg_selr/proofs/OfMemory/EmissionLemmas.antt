@@ -116,8 +116,6 @@ store_words xs t at n u =
 
 -- ---- arguments
 pub into_few : (rd : ℕ) (x : Operand) → words_in (into rd x) ≤ 8
-into_few rd (operand.Reg r) = omega arith
 into_few rd (operand.Number v) = let w = words-ones (number_code rd v) in let f = number_few rd v in omega (arith, w, f)
 into_few rd (operand.Host name) = let w = words-ones (number_code rd (host_address name)) in let f = number_few rd (host_address name) in omega (arith, w, f)
-into_few rd (operand.Label l) = omega arith
-into_few rd (operand.Slot k) = omega arith
+into_few rd x = omega arith

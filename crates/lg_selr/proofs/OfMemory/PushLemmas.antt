@@ -1,7 +1,7 @@
 -- Passing an argument of a call.
 use Rattle.lg_carry.proofs.BelowLemmas.{not-below}
 use Rattle.lg_carry.specs.Memory.Accesses.{LiesAbove}
-use Rattle.std.proofs.Common.{◌≡◌, ◌≢◌, ℕ, zero, suc, ◌+◌, ◌-◌, ◌*◌, ◌%◌, ◌^◌, ◌<◌, ◌≤◌, Bool, true, false, List, [], ◌∷◌, ◌++◌, refl, sym, ap, ◌∙◌, subst, arith, length, length-append, inr}
+use Rattle.std.proofs.Common.{◌≡◌, ◌≢◌, ℕ, suc, ◌+◌, ◌-◌, ◌*◌, ◌%◌, ◌^◌, ◌<◌, ◌≤◌, Bool, true, false, List, [], ◌∷◌, ◌++◌, refl, sym, ap, ◌∙◌, subst, arith, length, length-append, inr}
 use Rattle.std.specs.Prelude.{Option, pos, ◌==◌, nat_lt, if◌then◌else◌, slice_index}
 use Rattle.lg_base.specs.Conventions.{argument_registers}
 use Rattle.lg_base.specs.HostNames.{host_address}
@@ -49,15 +49,8 @@ use Rattle.lg_selr.proofs.OfMemory.StoreLemmas.{word-does}
 
 -- ---- the registers of arguments
 argument-some : (j : ℕ) → j < 8 → (slice_index (argument_registers Riscv64) j ≢ 0) × (slice_index (argument_registers Riscv64) j < 32)
-argument-some zero h = (λ e. cc, omega arith)
-argument-some (suc zero) h = (λ e. cc, omega arith)
-argument-some (suc (suc zero)) h = (λ e. cc, omega arith)
-argument-some (suc (suc (suc zero))) h = (λ e. cc, omega arith)
-argument-some (suc (suc (suc (suc zero)))) h = (λ e. cc, omega arith)
-argument-some (suc (suc (suc (suc (suc zero))))) h = (λ e. cc, omega arith)
-argument-some (suc (suc (suc (suc (suc (suc zero)))))) h = (λ e. cc, omega arith)
-argument-some (suc (suc (suc (suc (suc (suc (suc zero))))))) h = (λ e. cc, omega arith)
 argument-some (suc (suc (suc (suc (suc (suc (suc (suc j)))))))) h = absurd (omega (arith, h))
+argument-some j h = (λ e. cc, omega arith)
 
 -- ---- into a register
 module _ (code : List ℕ) (trash : ℕ) (q : Run CpuState) (fp : ℕ) where

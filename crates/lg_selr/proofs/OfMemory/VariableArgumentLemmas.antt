@@ -1,6 +1,6 @@
 -- Reading the next variable argument of the function.
 use Rattle.lg_carry.specs.Memory.Accesses.{LiesAbove}
-use Rattle.std.proofs.Common.{◌≡◌, ◌≢◌, ℕ, zero, suc, ◌+◌, ◌<◌, ◌≤◌, ◌^◌, ◌%◌, Bool, true, false, List, [], ◌∷◌, refl, sym, ap, ◌∙◌, arith}
+use Rattle.std.proofs.Common.{◌≡◌, ◌≢◌, ℕ, suc, ◌+◌, ◌<◌, ◌≤◌, ◌^◌, ◌%◌, Bool, true, false, List, [], ◌∷◌, refl, sym, ap, ◌∙◌, arith}
 use Rattle.std.specs.Prelude.{◌==◌, bit_and, negsuc, pos, if◌then◌else◌}
 use Rattle.lg_base.specs.Fields.{word_of}
 use Rattle.lg_base.specs.Layout.{frame_pointer}
@@ -8,7 +8,7 @@ use Rattle.lg_base.specs.Words.{add_words, mul_words, shifted_left}
 use Rattle.lg_base.specs.declared.target.Target.TheVariants.{Riscv64}
 use Rattle.lg_op.specs.declared.op.ValueType.TheVariants as value_type
 use Rattle.lg_op.specs.declared.operand.Reg.{Reg}
-use Rattle.lg_op.specs.declared.operand.Reg.TheVariants.{R0, R1, R2, V0, V1, V2, Fp}
+use Rattle.lg_op.specs.declared.operand.Reg.TheVariants.{Fp}
 use Rattle.lg_rv.specs.declared.instruction.Instr.TheVariants as instr
 use Rattle.lg_rv.specs.declared.instruction.ImmOp.TheVariants as imm
 use Rattle.lg_cpu.specs.HostSteps.{put}
@@ -45,23 +45,8 @@ abbrev distance : ℕ → ℕ
 distance k = mul_words (add_words k (word_of (negsuc 0))) (factor k)
 
 place-leads : (sp k : ℕ) → k < 16 → 272 ≤ sp → sp ≤ 0x40000000 → add_words (add_words (distance k) (frame_pointer sp)) (word_of (negsuc 39)) ≡ argument_place Riscv64 sp k
-place-leads sp zero few low high = omega (arith, low, high)
-place-leads sp (suc zero) few low high = omega (arith, low, high)
-place-leads sp (suc (suc zero)) few low high = omega (arith, low, high)
-place-leads sp (suc (suc (suc zero))) few low high = omega (arith, low, high)
-place-leads sp (suc (suc (suc (suc zero)))) few low high = omega (arith, low, high)
-place-leads sp (suc (suc (suc (suc (suc zero))))) few low high = omega (arith, low, high)
-place-leads sp (suc (suc (suc (suc (suc (suc zero)))))) few low high = omega (arith, low, high)
-place-leads sp (suc (suc (suc (suc (suc (suc (suc zero))))))) few low high = omega (arith, low, high)
-place-leads sp (suc (suc (suc (suc (suc (suc (suc (suc zero)))))))) few low high = omega (arith, low, high)
-place-leads sp (suc (suc (suc (suc (suc (suc (suc (suc (suc zero))))))))) few low high = omega (arith, low, high)
-place-leads sp (suc (suc (suc (suc (suc (suc (suc (suc (suc (suc zero)))))))))) few low high = omega (arith, low, high)
-place-leads sp (suc (suc (suc (suc (suc (suc (suc (suc (suc (suc (suc zero))))))))))) few low high = omega (arith, low, high)
-place-leads sp (suc (suc (suc (suc (suc (suc (suc (suc (suc (suc (suc (suc zero)))))))))))) few low high = omega (arith, low, high)
-place-leads sp (suc (suc (suc (suc (suc (suc (suc (suc (suc (suc (suc (suc (suc zero))))))))))))) few low high = omega (arith, low, high)
-place-leads sp (suc (suc (suc (suc (suc (suc (suc (suc (suc (suc (suc (suc (suc (suc zero)))))))))))))) few low high = omega (arith, low, high)
-place-leads sp (suc (suc (suc (suc (suc (suc (suc (suc (suc (suc (suc (suc (suc (suc (suc zero))))))))))))))) few low high = omega (arith, low, high)
 place-leads sp (suc (suc (suc (suc (suc (suc (suc (suc (suc (suc (suc (suc (suc (suc (suc (suc k)))))))))))))))) few low high = absurd (omega (arith, few))
+place-leads sp k few low high = omega (arith, low, high)
 
 -- ---- the registers
 -- two registers that are neither x0 nor the link nor FP
@@ -74,13 +59,8 @@ record AreApart (d s : ℕ) : Type 0 where
   apart : s ≢ d
 
 register-no-frame : (r : Reg) → r ≢ Fp → register_of Riscv64 r ≢ 8
-register-no-frame R0 ne = λ e. absurd (omega (arith, e))
-register-no-frame R1 ne = λ e. absurd (omega (arith, e))
-register-no-frame R2 ne = λ e. absurd (omega (arith, e))
-register-no-frame V0 ne = λ e. absurd (omega (arith, e))
-register-no-frame V1 ne = λ e. absurd (omega (arith, e))
-register-no-frame V2 ne = λ e. absurd (omega (arith, e))
 register-no-frame Fp ne = absurd (ne refl)
+register-no-frame r ne = λ e. absurd (omega (arith, e))
 
 are-apart : (d s : Reg) → d ≢ Fp → s ≢ Fp → d ≢ s → AreApart (register_of Riscv64 d) (register_of Riscv64 s)
 are-apart d s nd ns apart = record {

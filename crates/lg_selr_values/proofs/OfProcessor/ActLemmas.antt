@@ -10,7 +10,7 @@ use Rattle.lg_rv.specs.declared.instruction.Instr.{Instr}
 use Rattle.lg_rv.specs.declared.instruction.Instr.TheVariants.{Upper, Jal, Branch, Imm, Shift, Store, Reg}
 use Rattle.lg_rv.specs.declared.instruction.UpperOp.TheVariants.{Lui, Auipc}
 use Rattle.lg_rv.specs.declared.instruction.ImmOp.{ImmOp}
-use Rattle.lg_rv.specs.declared.instruction.ImmOp.TheVariants.{Jalr, Lb, Lh, Lw, Ld, Lbu, Lhu, Lwu, Addi, Slti, Sltiu, Xori, Ori, Andi, Addiw}
+use Rattle.lg_rv.specs.declared.instruction.ImmOp.TheVariants.{Jalr, Lb, Lh, Lw, Ld, Lbu, Lhu, Lwu}
 use Rattle.lg_cpu.specs.Steps.{Effect, faults, status_of}
 use Rattle.lg_cpu.specs.HostSteps.{put}
 use Rattle.lg_cpu.specs.RvOperators.{is_taken}
@@ -55,23 +55,15 @@ silent_imm Ld rd a n q = silent_load q rd (add_words a n) 8 false
 silent_imm Lbu rd a n q = silent_load q rd (add_words a n) 1 false
 silent_imm Lhu rd a n q = silent_load q rd (add_words a n) 2 false
 silent_imm Lwu rd a n q = silent_load q rd (add_words a n) 4 false
-silent_imm Addi rd a n q = refl
-silent_imm Slti rd a n q = refl
-silent_imm Sltiu rd a n q = refl
-silent_imm Xori rd a n q = refl
-silent_imm Ori rd a n q = refl
-silent_imm Andi rd a n q = refl
-silent_imm Addiw rd a n q = refl
+silent_imm op rd a n q = refl
 
 pub silent_act : (i : Instr) (q : CpuState) → Silent (act i q)
-silent_act (Upper Lui rd imm) q = refl
-silent_act (Upper Auipc rd imm) q = refl
 silent_act (Jal rd offset) q = silent_jump q rd (add_words q.pc (word_of offset))
 silent_act (Branch op rs1 rs2 offset) q = silent_branch q (add_words q.pc (word_of offset)) (is_taken op (read q.registers rs1) (read q.registers rs2))
 silent_act (Imm op rd rs1 imm) q = silent_imm op rd (read q.registers rs1) (word_of imm) q
-silent_act (Shift op rd rs1 amount) q = refl
 silent_act (Store op rs1 rs2 imm) q = silent_store q (add_words (read q.registers rs1) (word_of imm)) (store_width op) (read q.registers rs2)
-silent_act (Reg op rd rs1 rs2) q = refl
+silent_act (Upper Lui rd imm) q = refl
+silent_act i q = refl
 
 -- ---- the heap mark stays, and no byte is taken away
 pub record Steady (q : CpuState) (e : Effect CpuState) : Type 0 where
@@ -106,23 +98,15 @@ steady_imm Ld rd a n q = steady_load q rd (add_words a n) 8 false
 steady_imm Lbu rd a n q = steady_load q rd (add_words a n) 1 false
 steady_imm Lhu rd a n q = steady_load q rd (add_words a n) 2 false
 steady_imm Lwu rd a n q = steady_load q rd (add_words a n) 4 false
-steady_imm Addi rd a n q = record { mark = refl; grows = λ a h. h }
-steady_imm Slti rd a n q = record { mark = refl; grows = λ a h. h }
-steady_imm Sltiu rd a n q = record { mark = refl; grows = λ a h. h }
-steady_imm Xori rd a n q = record { mark = refl; grows = λ a h. h }
-steady_imm Ori rd a n q = record { mark = refl; grows = λ a h. h }
-steady_imm Andi rd a n q = record { mark = refl; grows = λ a h. h }
-steady_imm Addiw rd a n q = record { mark = refl; grows = λ a h. h }
+steady_imm op rd a n q = record { mark = refl; grows = λ a h. h }
 
 pub steady_act : (i : Instr) (q : CpuState) → Steady q (act i q)
-steady_act (Upper Lui rd imm) q = record { mark = refl; grows = λ a h. h }
-steady_act (Upper Auipc rd imm) q = record { mark = refl; grows = λ a h. h }
 steady_act (Jal rd offset) q = steady_jump q rd (add_words q.pc (word_of offset))
 steady_act (Branch op rs1 rs2 offset) q = steady_branch q (add_words q.pc (word_of offset)) (is_taken op (read q.registers rs1) (read q.registers rs2))
 steady_act (Imm op rd rs1 imm) q = steady_imm op rd (read q.registers rs1) (word_of imm) q
-steady_act (Shift op rd rs1 amount) q = record { mark = refl; grows = λ a h. h }
 steady_act (Store op rs1 rs2 imm) q = steady_store q (add_words (read q.registers rs1) (word_of imm)) (store_width op) (read q.registers rs2)
-steady_act (Reg op rd rs1 rs2) q = record { mark = refl; grows = λ a h. h }
+steady_act (Upper Lui rd imm) q = record { mark = refl; grows = λ a h. h }
+steady_act i q = record { mark = refl; grows = λ a h. h }
 
 -- ---- the next instruction follows, or the step faults
 abbrev Next : CpuState → Effect CpuState → Type 0
@@ -149,13 +133,7 @@ next_imm Ld rd rs1 a n q h = next_load q rd (add_words a n) 8 false
 next_imm Lbu rd rs1 a n q h = next_load q rd (add_words a n) 1 false
 next_imm Lhu rd rs1 a n q h = next_load q rd (add_words a n) 2 false
 next_imm Lwu rd rs1 a n q h = next_load q rd (add_words a n) 4 false
-next_imm Addi rd rs1 a n q h = λ e. refl
-next_imm Slti rd rs1 a n q h = λ e. refl
-next_imm Sltiu rd rs1 a n q h = λ e. refl
-next_imm Xori rd rs1 a n q h = λ e. refl
-next_imm Ori rd rs1 a n q h = λ e. refl
-next_imm Andi rd rs1 a n q h = λ e. refl
-next_imm Addiw rd rs1 a n q h = λ e. refl
+next_imm op rd rs1 a n q h = λ e. refl
 
 pub next_act : (i : Instr) (q : CpuState) → is_straight i ≡ true → Next q (act i q)
 next_act (Upper Lui rd imm) q h = λ e. refl

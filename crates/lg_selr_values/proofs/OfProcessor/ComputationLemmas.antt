@@ -10,7 +10,7 @@ use Rattle.lg_base.specs.Words.{add_words}
 use Rattle.lg_rv.specs.Spelling.{spelling}
 use Rattle.lg_rv.specs.declared.instruction.Instr.{Instr}
 use Rattle.lg_rv.specs.declared.instruction.Instr.TheVariants.{Upper, Jal, Branch, Imm, Shift, Store, Reg}
-use Rattle.lg_rv.specs.declared.instruction.UpperOp.TheVariants.{Lui, Auipc}
+use Rattle.lg_rv.specs.declared.instruction.UpperOp.TheVariants.{Lui}
 use Rattle.lg_rv.specs.declared.instruction.ImmOp.{ImmOp}
 use Rattle.lg_rv.specs.declared.instruction.ImmOp.TheVariants.{Addi, Slti, Sltiu, Xori, Ori, Andi, Addiw}
 use Rattle.lg_cpu.specs.Steps.{after, status_of, Run}
@@ -76,13 +76,10 @@ imm-act o rd a n q h = cc
 
 pub computes-act : (i : Instr) (q : CpuState) → computes i ≡ true → act i q ≡ goes (add_words q.pc 4) (computed_by i q.registers) q.bytes q.mark
 computes-act (Upper Lui rd imm) q h = refl
-computes-act (Upper Auipc rd imm) q h = cc
-computes-act (Jal rd offset) q h = cc
-computes-act (Branch op rs1 rs2 offset) q h = cc
 computes-act (Imm op rd rs1 imm) q h = imm-act op rd (read q.registers rs1) _ q h
 computes-act (Shift op rd rs1 amount) q h = refl
-computes-act (Store op rs1 rs2 imm) q h = cc
 computes-act (Reg op rd rs1 rs2) q h = refl
+computes-act i q h = cc
 
 imm-straight : (op : ImmOp) (rd rs1 : ℕ) → imm_computes op ≡ true → (imm : _) → is_straight (Imm op rd rs1 imm) ≡ true
 imm-straight Addi rd rs1 h imm = refl
@@ -95,13 +92,11 @@ imm-straight Addiw rd rs1 h imm = refl
 imm-straight o rd rs1 h imm = cc
 
 pub computes-straight : (i : Instr) → computes i ≡ true → is_straight i ≡ true
-computes-straight (Upper op rd imm) h = refl
 computes-straight (Jal rd offset) h = cc
 computes-straight (Branch op rs1 rs2 offset) h = cc
 computes-straight (Imm op rd rs1 imm) h = imm-straight op rd rs1 h imm
-computes-straight (Shift op rd rs1 amount) h = refl
 computes-straight (Store op rs1 rs2 imm) h = cc
-computes-straight (Reg op rd rs1 rs2) h = refl
+computes-straight i h = refl
 
 -- it touches nothing
 imm-off : (hidden : ℕ → Bool) (op : ImmOp) (from : ℕ) → imm_computes op ≡ true → IsOff hidden record { from = from; width = load_width op }
@@ -115,13 +110,9 @@ imm-off hidden Addiw from h = λ a le lt. absurd (omega (arith, le, lt))
 imm-off hidden o from h = cc
 
 computes-off : (hidden : ℕ → Bool) (i : Instr) (w : ℕ → ℕ) → computes i ≡ true → IsOff hidden (touched i w)
-computes-off hidden (Upper op rd imm) w h = nothing-off hidden
-computes-off hidden (Jal rd offset) w h = nothing-off hidden
-computes-off hidden (Branch op rs1 rs2 offset) w h = nothing-off hidden
 computes-off hidden (Imm op rd rs1 imm) w h = imm-off hidden op _ h
-computes-off hidden (Shift op rd rs1 amount) w h = nothing-off hidden
 computes-off hidden (Store op rs1 rs2 imm) w h = cc
-computes-off hidden (Reg op rd rs1 rs2) w h = nothing-off hidden
+computes-off hidden i w h = nothing-off hidden
 
 pub computes-above : (i : Instr) (q : Run CpuState) → computes i ≡ true → rv_above i q
 computes-above i q h = computes-off _ i q.state.registers h

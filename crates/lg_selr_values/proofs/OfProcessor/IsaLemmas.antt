@@ -1,5 +1,5 @@
 -- The instructions of RV64IM are those of a target.
-use Rattle.std.proofs.Common.{◌≡◌, ◌≢◌, ℕ, zero, suc, ◌<◌, ◌⊎◌, ⊎_elim, Bool, true, false, List, [], ◌∷◌, Some, refl, subst, arith, length}
+use Rattle.std.proofs.Common.{◌≡◌, ◌≢◌, ℕ, suc, ◌<◌, ◌⊎◌, ⊎_elim, Bool, true, false, List, [], ◌∷◌, Some, refl, subst, arith, length}
 use Rattle.std.specs.Prelude.{◌==◌, ◌||◌, ◌&&◌, slice_index}
 use Rattle.std.specs.List.{list_any}
 use Rattle.lg_base.specs.Conventions.{argument_registers, portable_register}
@@ -14,24 +14,12 @@ use Rattle.lg_selr_values.proofs.OfProcessor.SlotLemmas.{are-spills}
 
 -- ---- x0 is none of the registers of the conventions
 pub portable-some : (r : ℕ) → r < 6 → portable_register Riscv64 r ≢ 0
-portable-some zero lt e = cc
-portable-some (suc zero) lt e = cc
-portable-some (suc (suc zero)) lt e = cc
-portable-some (suc (suc (suc zero))) lt e = cc
-portable-some (suc (suc (suc (suc zero)))) lt e = cc
-portable-some (suc (suc (suc (suc (suc zero))))) lt e = cc
 portable-some (suc (suc (suc (suc (suc (suc r)))))) lt e = absurd (omega (arith, lt))
+portable-some r lt e = cc
 
 pub argument-some : (i : ℕ) → i < length (argument_registers Riscv64) → slice_index (argument_registers Riscv64) i ≢ 0
-argument-some zero lt e = cc
-argument-some (suc zero) lt e = cc
-argument-some (suc (suc zero)) lt e = cc
-argument-some (suc (suc (suc zero))) lt e = cc
-argument-some (suc (suc (suc (suc zero)))) lt e = cc
-argument-some (suc (suc (suc (suc (suc zero))))) lt e = cc
-argument-some (suc (suc (suc (suc (suc (suc zero)))))) lt e = cc
-argument-some (suc (suc (suc (suc (suc (suc (suc zero))))))) lt e = cc
 argument-some (suc (suc (suc (suc (suc (suc (suc (suc i)))))))) lt e = absurd (omega (arith, lt))
+argument-some i lt e = cc
 
 zero-apart : IsApart Riscv64 0
 zero-apart = record { portable = portable-some; argument = argument-some; pointer = λ e. cc; stack = λ e. cc }

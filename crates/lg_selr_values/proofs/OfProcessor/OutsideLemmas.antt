@@ -11,7 +11,7 @@ use Rattle.lg_rv.specs.declared.instruction.Instr.{Instr}
 use Rattle.lg_rv.specs.declared.instruction.Instr.TheVariants.{Upper, Jal, Branch, Imm, Shift, Store, Reg}
 use Rattle.lg_rv.specs.declared.instruction.UpperOp.TheVariants.{Lui, Auipc}
 use Rattle.lg_rv.specs.declared.instruction.ImmOp.{ImmOp}
-use Rattle.lg_rv.specs.declared.instruction.ImmOp.TheVariants.{Jalr, Lb, Lh, Lw, Ld, Lbu, Lhu, Lwu, Addi, Slti, Sltiu, Xori, Ori, Andi, Addiw}
+use Rattle.lg_rv.specs.declared.instruction.ImmOp.TheVariants.{Jalr, Lb, Lh, Lw, Ld, Lbu, Lhu, Lwu}
 use Rattle.lg_cpu.specs.HostSteps.{put}
 use Rattle.lg_cpu.specs.RvOperators.{is_taken}
 use Rattle.lg_cpu.specs.RvStep.{read, goes, loads, load_at, store_at, store_width, jump_to, branch_to, imm_effect, act}
@@ -70,13 +70,7 @@ module _ (moves : Bool) (r : ℕ) (out : is_outside Riscv64 moves r ≡ true) wh
     keep-imm Lbu rd a n h = keep-load rd (add_words a n) 1 false h
     keep-imm Lhu rd a n h = keep-load rd (add_words a n) 2 false h
     keep-imm Lwu rd a n h = keep-load rd (add_words a n) 4 false h
-    keep-imm Addi rd a n h = puts q.registers rd _ h
-    keep-imm Slti rd a n h = puts q.registers rd _ h
-    keep-imm Sltiu rd a n h = puts q.registers rd _ h
-    keep-imm Xori rd a n h = puts q.registers rd _ h
-    keep-imm Ori rd a n h = puts q.registers rd _ h
-    keep-imm Andi rd a n h = puts q.registers rd _ h
-    keep-imm Addiw rd a n h = puts q.registers rd _ h
+    keep-imm op rd a n h = puts q.registers rd _ h
 
     keep-act : (i : Instr) → WritesWithin moves i → Keeps q (act i q)
     keep-act (Upper Lui rd imm) h = puts q.registers rd _ h

@@ -1,5 +1,5 @@
 -- A step of RV64 leaves alone what it does not touch.
-use Rattle.std.proofs.Common.{◌≡◌, ℕ, ◌+◌, ◌-◌, ◌/◌, ◌%◌, ◌^◌, ◌<◌, ◌≤◌, Bool, true, false, List, Option, Some, None, refl, sym, ap, ◌∙◌, subst, drop}
+use Rattle.std.proofs.Common.{◌≡◌, ℕ, ◌+◌, ◌-◌, ◌%◌, ◌^◌, ◌<◌, ◌≤◌, Bool, true, false, List, Option, Some, None, refl, sym, ap, ◌∙◌, subst, drop}
 use Rattle.std.specs.Prelude.{◌==◌, if◌then◌else◌}
 use mathlib.Core.Path.{fun_ext}
 use Rattle.lg_base.specs.Fields.{word_of}
@@ -19,7 +19,7 @@ use Rattle.lg_rv.specs.declared.instruction.Instr.{Instr}
 use Rattle.lg_rv.specs.declared.instruction.Instr.TheVariants.{Upper, Jal, Branch, Imm, Shift, Store, Reg}
 use Rattle.lg_rv.specs.declared.instruction.UpperOp.TheVariants.{Lui, Auipc}
 use Rattle.lg_rv.specs.declared.instruction.ImmOp.{ImmOp}
-use Rattle.lg_rv.specs.declared.instruction.ImmOp.TheVariants.{Jalr, Lb, Lh, Lw, Ld, Lbu, Lhu, Lwu, Addi, Slti, Sltiu, Xori, Ori, Andi, Addiw}
+use Rattle.lg_rv.specs.declared.instruction.ImmOp.TheVariants.{Jalr, Lb, Lh, Lw, Ld, Lbu, Lhu, Lwu}
 use Rattle.lg_cpu.proofs.SoundLemmas.{stays-sound}
 use Rattle.lg_cpu.specs.Fetches.{in_code}
 use Rattle.lg_cpu.specs.HostSteps.{answer_at}
@@ -96,13 +96,7 @@ module _ (hidden : ℕ → Bool) (q : CpuState) (flags : Flags) (m : ℕ → Opt
   numbered Lbu rd a n off = loading rd (add_words a n) 1 false off
   numbered Lhu rd a n off = loading rd (add_words a n) 2 false off
   numbered Lwu rd a n off = loading rd (add_words a n) 4 false off
-  numbered Addi rd a n off = setting rd _
-  numbered Slti rd a n off = setting rd _
-  numbered Sltiu rd a n off = setting rd _
-  numbered Xori rd a n off = setting rd _
-  numbered Ori rd a n off = setting rd _
-  numbered Andi rd a n off = setting rd _
-  numbered Addiw rd a n off = setting rd _
+  numbered o rd a n off = setting rd _
 
   acts-alike : (i : Instr) → IsOff hidden (touched i q.registers) → Same (act i q) (act i t)
   acts-alike (Upper Lui rd imm) off = setting rd _

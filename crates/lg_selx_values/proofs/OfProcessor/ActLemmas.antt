@@ -12,14 +12,14 @@ use Rattle.lg_carry.proofs.SpillLemmas.{stored-there}
 use Rattle.lg_x86.specs.declared.instruction.Instr.{Instr}
 use Rattle.lg_x86.specs.declared.instruction.Instr.TheVariants.{RmReg, Imm, RegRm, Load, Store, Lea2, Movi32, Movs32, Movi64, Unary, Shift, Bswap, Stack, JumpIfShort, JumpIfNear, Set, JumpShort, JumpNear, JumpReg, Bare}
 use Rattle.lg_x86.specs.declared.instruction.BareOp.TheVariants.{Cqo, Ret, Nop}
-use Rattle.lg_x86.specs.declared.instruction.JumpNearOp.TheVariants.{Jmp32, Call32}
-use Rattle.lg_x86.specs.declared.instruction.JumpRegOp.TheVariants.{Jmpr, Callr}
+use Rattle.lg_x86.specs.declared.instruction.JumpNearOp.TheVariants.{Call32}
+use Rattle.lg_x86.specs.declared.instruction.JumpRegOp.TheVariants.{Callr}
 use Rattle.lg_x86.specs.declared.instruction.LoadOp.{LoadOp}
 use Rattle.lg_x86.specs.declared.instruction.LoadOp.TheVariants.{Ld64, Ld32u, Ld32s, Ld8u, Ld16u, Ld8s, Ld16s, Lea}
 use Rattle.lg_x86.specs.declared.instruction.RmRegOp.{RmRegOp}
 use Rattle.lg_x86.specs.declared.instruction.StackOp.TheVariants.{Push, Pop}
 use Rattle.lg_x86.specs.declared.instruction.UnaryOp.{UnaryOp}
-use Rattle.lg_x86.specs.declared.instruction.UnaryOp.TheVariants.{Not, Neg, Mul, Imul1, Div, Idiv, Shl}
+use Rattle.lg_x86.specs.declared.instruction.UnaryOp.TheVariants.{Div, Idiv}
 use Rattle.lg_cpu.specs.HostSteps.{put}
 use Rattle.lg_cpu.specs.States.{CpuState}
 use Rattle.lg_cpu.specs.Steps.{Effect}
@@ -30,28 +30,13 @@ use Rattle.lg_selx_values.specs.Processor.X86Rows.{is_straight}
 
 -- an instruction that is straight makes a scene, or faults
 pub straight-does : (i : Instr) (next : ℕ) (q : CpuState) → is_straight i ≡ true → does i next q ≡ goes_with q next (fault_of i) (made i (scene_of q))
-straight-does (RmReg op rm reg) next q h = refl
-straight-does (Imm op rm imm) next q h = refl
-straight-does (RegRm op reg rm) next q h = refl
-straight-does (Load op reg base disp) next q h = refl
-straight-does (Store op base disp reg) next q h = refl
-straight-does (Lea2 reg base index) next q h = refl
-straight-does (Movi32 reg imm) next q h = refl
-straight-does (Movs32 rm imm) next q h = refl
-straight-does (Movi64 reg imm) next q h = refl
-straight-does (Unary op rm) next q h = refl
-straight-does (Shift op rm count) next q h = refl
-straight-does (Bswap reg) next q h = refl
-straight-does (Stack op reg) next q h = refl
 straight-does (JumpIfShort cond distance) next q h = cc
 straight-does (JumpIfNear cond distance) next q h = cc
-straight-does (Set cond rm) next q h = refl
 straight-does (JumpShort distance) next q h = cc
 straight-does (JumpNear op distance) next q h = cc
 straight-does (JumpReg op rm) next q h = cc
-straight-does (Bare Cqo) next q h = refl
-straight-does (Bare Nop) next q h = refl
 straight-does (Bare Ret) next q h = cc
+straight-does i next q h = refl
 
 -- ---- no byte is taken away
 abbrev Grows : Scene → Scene → Type 0
@@ -95,13 +80,8 @@ grows-quotient s None = tt
 grows-quotient s (Some p) = λ a e. e
 
 grows-one : (op : UnaryOp) (rm : ℕ) (s : Scene) → IfGrows s (one_register op rm s)
-grows-one Not rm s = λ a e. e
-grows-one Neg rm s = λ a e. e
-grows-one Mul rm s = λ a e. e
-grows-one Imul1 rm s = λ a e. e
 grows-one Div rm s = grows-quotient s (quotient_wide (s.registers 2) (s.registers 0) (s.registers rm))
 grows-one Idiv rm s = grows-quotient s (quotient_wide_signed (s.registers 2) (s.registers 0) (s.registers rm))
-grows-one Shl rm s = λ a e. e
 grows-one o rm s = λ a e. e
 
 grows-pop : (reg : ℕ) (s : Scene) (o : Option ℕ) → IfGrows s (pops reg s o)
@@ -177,8 +157,6 @@ steady-does (Bare Nop) next q = steady-made (Bare Nop) next q
 steady-does (Bare Ret) next q = steady-return q (loaded q.bytes (q.registers 4) 8)
 steady-does (JumpIfShort cond distance) next q = steady-where q next (add_words next (word_of distance)) (condition_holds cond q.flags)
 steady-does (JumpIfNear cond distance) next q = steady-where q next (add_words next (word_of distance)) (condition_holds cond q.flags)
-steady-does (JumpShort distance) next q = record { written = refl; mark = refl; grows = λ a e. e }
-steady-does (JumpNear Jmp32 distance) next q = record { written = refl; mark = refl; grows = λ a e. e }
 steady-does (JumpNear Call32 distance) next q = steady-with q (add_words next (word_of distance)) Memory (pushes next (scene_of q)) (grows-push next (scene_of q))
-steady-does (JumpReg Jmpr rm) next q = record { written = refl; mark = refl; grows = λ a e. e }
 steady-does (JumpReg Callr rm) next q = steady-with q (q.registers rm) Memory (pushes next (scene_of q)) (grows-push next (scene_of q))
+steady-does i next q = record { written = refl; mark = refl; grows = λ a e. e }

@@ -10,7 +10,7 @@ use Rattle.lg_x86.specs.declared.instruction.LoadOp.TheVariants.{Lea}
 use Rattle.lg_x86.specs.declared.instruction.RmRegOp.{RmRegOp}
 use Rattle.lg_x86.specs.declared.instruction.RmRegOp.TheVariants as alu
 use Rattle.lg_x86.specs.declared.instruction.UnaryOp.{UnaryOp}
-use Rattle.lg_x86.specs.declared.instruction.UnaryOp.TheVariants.{Not, Neg, Mul, Imul1, Div, Idiv, Shl}
+use Rattle.lg_x86.specs.declared.instruction.UnaryOp.TheVariants.{Div, Idiv}
 use Rattle.lg_cpu.specs.Steps.{after, status_of}
 use Rattle.lg_cpu.specs.X86Operators.{alu_of}
 use Rattle.lg_cpu.specs.X86Step.{Scene, scene_of, made, fault_of, goes, goes_with, act, combined}
@@ -32,21 +32,13 @@ abbrev with_held : Held → Scene → Scene
 with_held w s = scene w.registers w.flags s.bytes
 
 combined-computes : (op : RmRegOp) (rm b : ℕ) (s : Scene) → reads_no_carry op ≡ true → combined op rm b s ≡ Some (with_held (held_of (holding s) (combined op rm b (bare (holding s)))) s)
-combined-computes alu.Add rm b s h = refl
-combined-computes alu.Or rm b s h = refl
 combined-computes alu.Adc rm b s h = cc
 combined-computes alu.Sbb rm b s h = cc
-combined-computes alu.And rm b s h = refl
 combined-computes o rm b s h = refl
 
 unary-computes : (op : UnaryOp) (rm : ℕ) (s : Scene) → divides_not op ≡ true → made (Unary op rm) s ≡ Some (with_held (held_by (Unary op rm) (holding s)) s)
-unary-computes Not rm s h = refl
-unary-computes Neg rm s h = refl
-unary-computes Mul rm s h = refl
-unary-computes Imul1 rm s h = refl
 unary-computes Div rm s h = cc
 unary-computes Idiv rm s h = cc
-unary-computes Shl rm s h = refl
 unary-computes o rm s h = refl
 
 -- one that computes makes a scene of any, with these registers and flags and the same memory

@@ -1,7 +1,7 @@
 -- Instructions after each of which the next one follows: what lists of them do.
 use Rattle.lg_cpu.specs.X86Operators.{bit, carry_for, alu_value, alu_flags, alu_of, is_kept_by, condition_holds}
 use Rattle.lg_x86.specs.declared.instruction.RmRegOp.{RmRegOp}
-use Rattle.lg_x86.specs.declared.instruction.UnaryOp.TheVariants.{Not, Neg, Mul, Imul1, Div, Idiv, Shl}
+use Rattle.lg_x86.specs.declared.instruction.UnaryOp.TheVariants.{Div, Idiv}
 use Rattle.lg_x86.specs.declared.instruction.UnaryOp.{UnaryOp}
 use Rattle.lg_x86.specs.declared.instruction.StackOp.TheVariants.{Push, Pop}
 use Rattle.lg_x86.specs.declared.instruction.StoreOp.TheVariants.{St64}
@@ -11,8 +11,8 @@ use Rattle.lg_base.specs.Wide.{quotient_wide, quotient_wide_signed}
 use Rattle.lg_base.specs.Flags.{carry_of}
 use Rattle.lg_base.specs.Fields.{word_of}
 use Rattle.lg_base.specs.Spaces.{mapped, loaded, stored, number_at, byte_or_zero}
-use Rattle.lg_x86.specs.declared.instruction.JumpRegOp.TheVariants.{Jmpr, Callr}
-use Rattle.lg_x86.specs.declared.instruction.JumpNearOp.TheVariants.{Jmp32, Call32}
+use Rattle.lg_x86.specs.declared.instruction.JumpRegOp.TheVariants.{Callr}
+use Rattle.lg_x86.specs.declared.instruction.JumpNearOp.TheVariants.{Call32}
 use Rattle.lg_x86.specs.declared.instruction.LoadOp.TheVariants.{Lea, Ld64, Ld32u, Ld32s, Ld8u, Ld16u, Ld8s, Ld16s}
 use Rattle.lg_x86.specs.declared.instruction.LoadOp.{LoadOp}
 use Rattle.lg_selx_values.specs.Processor.X86Touched.{touched}
@@ -58,28 +58,13 @@ makes-append (i ∷ is) js s t u e f = let h = first i is s t e in ap (option_an
 
 -- what makes a scene is straight
 pub makes-straight : (i : Instr) (s t : Scene) → made i s ≡ Some t → is_straight i ≡ true
-makes-straight (RmReg op rm reg) s t e = refl
-makes-straight (Imm op rm imm) s t e = refl
-makes-straight (RegRm op reg rm) s t e = refl
-makes-straight (Load op reg base disp) s t e = refl
-makes-straight (Store op base disp reg) s t e = refl
-makes-straight (Lea2 reg base index) s t e = refl
-makes-straight (Movi32 reg imm) s t e = refl
-makes-straight (Movs32 rm imm) s t e = refl
-makes-straight (Movi64 reg imm) s t e = refl
-makes-straight (Unary op rm) s t e = refl
-makes-straight (Shift op rm count) s t e = refl
-makes-straight (Bswap reg) s t e = refl
-makes-straight (Stack op reg) s t e = refl
 makes-straight (JumpIfShort cond distance) s t e = cc
 makes-straight (JumpIfNear cond distance) s t e = cc
-makes-straight (Set cond rm) s t e = refl
 makes-straight (JumpShort distance) s t e = cc
 makes-straight (JumpNear op distance) s t e = cc
 makes-straight (JumpReg op rm) s t e = cc
-makes-straight (Bare Cqo) s t e = refl
-makes-straight (Bare Nop) s t e = refl
 makes-straight (Bare Ret) s t e = cc
+makes-straight i s t e = refl
 
 pub makes-block : (is : List Instr) (s t : Scene) → makes is s ≡ Some t → IsBlock is_straight is
 makes-block [] s t e = tt
@@ -92,30 +77,13 @@ load-off hidden Lea reg base disp from h = λ a le lt. absurd (omega (arith, le,
 load-off hidden op reg base disp from h = cc
 
 pub still-off : (hidden : ℕ → Bool) (i : Instr) (w : ℕ → ℕ) → is_still i ≡ true → IsOff hidden (touched i w)
-still-off hidden (RmReg op rm reg) w h = nothing-off hidden
-still-off hidden (Imm op rm imm) w h = nothing-off hidden
-still-off hidden (RegRm op reg rm) w h = nothing-off hidden
 still-off hidden (Load op reg base disp) w h = load-off hidden op reg base disp _ h
 still-off hidden (Store op base disp reg) w h = cc
-still-off hidden (Lea2 reg base index) w h = nothing-off hidden
-still-off hidden (Movi32 reg imm) w h = nothing-off hidden
-still-off hidden (Movs32 rm imm) w h = nothing-off hidden
-still-off hidden (Movi64 reg imm) w h = nothing-off hidden
-still-off hidden (Unary op rm) w h = nothing-off hidden
-still-off hidden (Shift op rm count) w h = nothing-off hidden
-still-off hidden (Bswap reg) w h = nothing-off hidden
 still-off hidden (Stack op reg) w h = cc
-still-off hidden (JumpIfShort cond distance) w h = nothing-off hidden
-still-off hidden (JumpIfNear cond distance) w h = nothing-off hidden
-still-off hidden (Set cond rm) w h = nothing-off hidden
-still-off hidden (JumpShort distance) w h = nothing-off hidden
-still-off hidden (JumpNear Jmp32 distance) w h = nothing-off hidden
 still-off hidden (JumpNear Call32 distance) w h = cc
-still-off hidden (JumpReg Jmpr rm) w h = nothing-off hidden
 still-off hidden (JumpReg Callr rm) w h = cc
-still-off hidden (Bare Cqo) w h = nothing-off hidden
-still-off hidden (Bare Nop) w h = nothing-off hidden
 still-off hidden (Bare Ret) w h = cc
+still-off hidden i w h = nothing-off hidden
 
 pub still-above : (is : List Instr) (s : Scene) → list_all is_still is ≡ true → AreAbove is s
 still-above [] s h = tt
@@ -159,29 +127,14 @@ module _ (w : ℕ → ℕ) (f : Flags) where
   store-some o = omega arith
 
   still-made : (i : Instr) (t : Scene) → made i bare ≡ Some t → is_still i ≡ true
-  still-made (RmReg op rm reg) t e = refl
-  still-made (Imm op rm imm) t e = refl
-  still-made (RegRm op reg rm) t e = refl
   still-made (Load op reg base disp) t e = still-load op reg base disp _ t e
   still-made (Store op base disp reg) t e = no-scene _ t (none-stored w _ (store_width op) (w reg) (store-some op)) e
-  still-made (Lea2 reg base index) t e = refl
-  still-made (Movi32 reg imm) t e = refl
-  still-made (Movs32 rm imm) t e = refl
-  still-made (Movi64 reg imm) t e = refl
-  still-made (Unary op rm) t e = refl
-  still-made (Shift op rm count) t e = refl
-  still-made (Bswap reg) t e = refl
   still-made (Stack Push reg) t e = no-scene _ t (none-stored _ _ 8 (w reg) (omega arith)) e
   still-made (Stack Pop reg) t e = no-scene _ t (ap (pops reg bare) (none-loaded (w 4) 8 (omega arith))) e
-  still-made (JumpIfShort cond distance) t e = refl
-  still-made (JumpIfNear cond distance) t e = refl
-  still-made (Set cond rm) t e = refl
-  still-made (JumpShort distance) t e = refl
   still-made (JumpNear op distance) t e = cc
   still-made (JumpReg op rm) t e = cc
-  still-made (Bare Cqo) t e = refl
-  still-made (Bare Nop) t e = refl
   still-made (Bare Ret) t e = cc
+  still-made i t e = refl
 
 -- ---- and leave the memory
 abbrev IfKeeps : Scene → Option Scene → Type 0
@@ -215,13 +168,8 @@ keeps-quotient s None = tt
 keeps-quotient s (Some p) = refl
 
 keeps-one : (op : UnaryOp) (rm : ℕ) (s : Scene) → IfKeeps s (one_register op rm s)
-keeps-one Not rm s = refl
-keeps-one Neg rm s = refl
-keeps-one Mul rm s = refl
-keeps-one Imul1 rm s = refl
 keeps-one Div rm s = keeps-quotient s (quotient_wide (s.registers 2) (s.registers 0) (s.registers rm))
 keeps-one Idiv rm s = keeps-quotient s (quotient_wide_signed (s.registers 2) (s.registers 0) (s.registers rm))
-keeps-one Shl rm s = refl
 keeps-one o rm s = refl
 
 keeps-byte : (rm : ℕ) (s : Scene) (o : Option Bool) → IfKeeps s (sets_byte rm s o)

@@ -13,16 +13,16 @@ use Rattle.lg_base.specs.declared.flags.Flags.{Flags}
 use Rattle.lg_base.specs.declared.target.Target.TheVariants.{X86_64}
 use Rattle.lg_x86.specs.Spelling.{spelling}
 use Rattle.lg_x86.specs.declared.instruction.Instr.{Instr}
-use Rattle.lg_x86.specs.declared.instruction.Instr.TheVariants.{RmReg, Imm, RegRm, Load, Store, Lea2, Movi32, Movs32, Movi64, Unary, Shift, Bswap, Stack, JumpIfShort, JumpIfNear, Set, JumpShort, JumpNear, JumpReg, Bare}
+use Rattle.lg_x86.specs.declared.instruction.Instr.TheVariants.{RmReg, Imm, RegRm, Load, Store, Lea2, Movi32, Movs32, Movi64, Unary, Shift, Bswap, Stack, JumpIfShort, JumpIfNear, Set, JumpNear, JumpReg, Bare}
 use Rattle.lg_x86.specs.declared.instruction.BareOp.TheVariants.{Cqo, Ret, Nop}
-use Rattle.lg_x86.specs.declared.instruction.JumpNearOp.TheVariants.{Jmp32, Call32}
-use Rattle.lg_x86.specs.declared.instruction.JumpRegOp.TheVariants.{Jmpr, Callr}
+use Rattle.lg_x86.specs.declared.instruction.JumpNearOp.TheVariants.{Call32}
+use Rattle.lg_x86.specs.declared.instruction.JumpRegOp.TheVariants.{Callr}
 use Rattle.lg_x86.specs.declared.instruction.LoadOp.{LoadOp}
 use Rattle.lg_x86.specs.declared.instruction.LoadOp.TheVariants.{Ld64, Ld32u, Ld32s, Ld8u, Ld16u, Ld8s, Ld16s, Lea}
 use Rattle.lg_x86.specs.declared.instruction.RmRegOp.{RmRegOp}
 use Rattle.lg_x86.specs.declared.instruction.StackOp.TheVariants.{Push, Pop}
 use Rattle.lg_x86.specs.declared.instruction.UnaryOp.{UnaryOp}
-use Rattle.lg_x86.specs.declared.instruction.UnaryOp.TheVariants.{Not, Neg, Mul, Imul1, Div, Idiv, Shl}
+use Rattle.lg_x86.specs.declared.instruction.UnaryOp.TheVariants.{Mul, Imul1, Div, Idiv}
 use Rattle.lg_cpu.specs.HostSteps.{put}
 use Rattle.lg_cpu.specs.States.{CpuState}
 use Rattle.lg_cpu.specs.Steps.{Progress, Goes, EndedWith, Faulted, Effect, after, on_going}
@@ -88,13 +88,10 @@ module _ (moves : Bool) (r : ℕ) (out : is_outside X86_64 moves r ≡ true) whe
   keep-quotient s (Some p) = keep-wide s p.1 p.0 no_flags
 
   keep-one : (op : UnaryOp) (rm : ℕ) (s : Scene) → is_outside X86_64 moves rm ≡ false → Keeps s (one_register op rm s)
-  keep-one Not rm s h = puts s.registers rm _ h
-  keep-one Neg rm s h = puts s.registers rm _ h
   keep-one Mul rm s h = keep-wide s (high_product (s.registers 0) (s.registers rm)) (mul_words (s.registers 0) (s.registers rm)) (product_flags (needs_high (s.registers 0) (s.registers rm)))
   keep-one Imul1 rm s h = keep-wide s (high_product_signed (s.registers 0) (s.registers rm)) (mul_words (s.registers 0) (s.registers rm)) (product_flags (needs_high_signed (s.registers 0) (s.registers rm)))
   keep-one Div rm s h = keep-quotient s (quotient_wide (s.registers 2) (s.registers 0) (s.registers rm))
   keep-one Idiv rm s h = keep-quotient s (quotient_wide_signed (s.registers 2) (s.registers 0) (s.registers rm))
-  keep-one Shl rm s h = puts s.registers rm _ h
   keep-one o rm s h = puts s.registers rm _ h
 
   keep-pop : (reg : ℕ) (s : Scene) (o : Option ℕ) → is_outside X86_64 moves reg ≡ false → is_outside X86_64 moves 4 ≡ false → Keeps s (pops reg s o)
@@ -168,11 +165,9 @@ module _ (moves : Bool) (r : ℕ) (out : is_outside X86_64 moves r ≡ true) whe
   stay-does (Bare Ret) next q h = stay-return q (loaded q.bytes (q.registers 4) 8) h.0
   stay-does (JumpIfShort cond distance) next q h = stay-where q next (add_words next (word_of distance)) (condition_holds cond q.flags)
   stay-does (JumpIfNear cond distance) next q h = stay-where q next (add_words next (word_of distance)) (condition_holds cond q.flags)
-  stay-does (JumpShort distance) next q h = refl
-  stay-does (JumpNear Jmp32 distance) next q h = refl
   stay-does (JumpNear Call32 distance) next q h = stay-with q (add_words next (word_of distance)) Memory (pushes next (scene_of q)) (keep-push next (scene_of q) h.0)
-  stay-does (JumpReg Jmpr rm) next q h = refl
   stay-does (JumpReg Callr rm) next q h = stay-with q (q.registers rm) Memory (pushes next (scene_of q)) (keep-push next (scene_of q) h.0)
+  stay-does i next q h = refl
 
 pub instructions-stay : InstructionsStay
 instructions-stay code trash moves i within q r out = by q.progress

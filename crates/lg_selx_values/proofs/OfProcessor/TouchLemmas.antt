@@ -24,7 +24,7 @@ use Rattle.lg_x86.specs.declared.instruction.LoadOp.TheVariants.{Ld64, Ld32u, Ld
 use Rattle.lg_x86.specs.declared.instruction.RmRegOp.{RmRegOp}
 use Rattle.lg_x86.specs.declared.instruction.StackOp.TheVariants.{Push, Pop}
 use Rattle.lg_x86.specs.declared.instruction.UnaryOp.{UnaryOp}
-use Rattle.lg_x86.specs.declared.instruction.UnaryOp.TheVariants.{Not, Neg, Mul, Imul1, Div, Idiv, Shl}
+use Rattle.lg_x86.specs.declared.instruction.UnaryOp.TheVariants.{Div, Idiv}
 use Rattle.lg_cpu.proofs.X86SoundLemmas.{x86-stays-sound}
 use Rattle.lg_cpu.specs.Fetches.{in_code}
 use Rattle.lg_cpu.specs.HostSteps.{put}
@@ -129,13 +129,8 @@ module _ (hidden : ℕ → Bool) (q : CpuState) (m : ℕ → Option ℕ) (same :
   quotient (Some p) = plain _ _
 
   one : (op : UnaryOp) (rm : ℕ) → Both (one_register op rm here) (one_register op rm there)
-  one Not rm = plain _ _
-  one Neg rm = plain _ _
-  one Mul rm = plain _ _
-  one Imul1 rm = plain _ _
   one Div rm = quotient (quotient_wide (q.registers 2) (q.registers 0) (q.registers rm))
   one Idiv rm = quotient (quotient_wide_signed (q.registers 2) (q.registers 0) (q.registers rm))
-  one Shl rm = plain _ _
   one o rm = plain _ _
 
   pop : (reg : ℕ) (o : Option ℕ) → Both (pops reg here o) (pops reg there o)

@@ -1,17 +1,15 @@
 -- Nodes whose code makes registers and flags of what it finds, and goes on to the next node. It may read the memory and the flags, fault where the portable
 -- step is undefined, and spoil FP and make it again from the stack pointer.
-use Rattle.std.specs.Prelude.{◌≡◌, ℕ, ◌<◌, ◌⊎◌, List, [], length, Option, Some}
+use Rattle.std.specs.Prelude.{◌≡◌, ℕ, ◌⊎◌, List, [], Option, Some}
 use Rattle.lg_base.specs.declared.flags.Flags.{Flags}
 use Rattle.lg_base.specs.declared.target.Target.TheVariants.{X86_64}
 use Rattle.lg_op.specs.declared.node.Node.{Node}
-use Rattle.lg_x86.specs.Spelling.{spelling}
 use Rattle.lg_x86.specs.declared.instruction.Instr.{Instr}
 use Rattle.lg_cpu.specs.X86Step.{Scene}
 use Rattle.lg_meaning.specs.States.{State}
 use Rattle.lg_meaning.specs.Steps.{Goes, Undefined}
 use Rattle.lg_meaning.specs.Texts.{step}
 use Rattle.lg_temp.specs.declared.choice.Choice.{Choice}
-use Rattle.lg_carry.specs.Blocks.{spellings}
 use Rattle.lg_carry.specs.FinalNodes.{Code}
 use Rattle.lg_carry.specs.Processors.{Seen}
 use Rattle.lg_carry.specs.Nodes.Straight.{GoesOn, HoldsRead, HoldsWritten, IsKept, ComputesNode}

@@ -7,7 +7,7 @@ use Rattle.lg_x86.specs.declared.instruction.Instr.TheVariants.{Load, Store, Sta
 use Rattle.lg_base.specs.declared.target.Target.TheVariants.{X86_64}
 use Rattle.lg_carry.specs.Processors.{IsOff, is_below}
 use Rattle.lg_selx_values.specs.Processor.X86Touched.{touched}
-use Rattle.std.specs.Prelude.{◌≡◌, ℕ, ◌+◌, ◌<◌, ◌≤◌, Bool, true, false, ⊤, List, [], ◌∷◌, length, Option, Some}
+use Rattle.std.specs.Prelude.{◌≡◌, ◌+◌, ◌<◌, ◌≤◌, Bool, true, false, ⊤, List, [], ◌∷◌, length, Option, Some}
 use Rattle.std.specs.Option.{option_and_then}
 use Rattle.lg_base.specs.Layout.{code_base, most_code}
 use Rattle.lg_base.specs.Runs.{Running}
