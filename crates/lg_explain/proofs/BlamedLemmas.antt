@@ -190,8 +190,7 @@ module _ (l : LabelledNodes) (o : Option ℕ) (op : Op) where
 -- ---- labels that are bound at a node
 at_bound : (i : ℕ) (p : Option Place) → is_at i p ≡ true → p ≡ Some (place.Node i)
 at_bound i (Some (place.Node k)) e = let same : k ≡ i = grind (arith, nat_tests) in ap (λ (j : ℕ). Some (place.Node j)) same
-at_bound i (Some (place.Image k)) e = cc
-at_bound i None e = cc
+at_bound i _ e = cc
 
 node_at : (i : ℕ) → is_at i (Some (place.Node i)) ≡ true
 node_at i = grind (arith, nat_tests)

@@ -12,9 +12,8 @@ use Rattle.lg_tst.specs.Units.{is_unbound}
 
 -- the first label of a word is bound
 abbrev pub is_bound : List (List ℕ) → List (Option Place) → List ℕ → Bool
-is_bound [] places word = false
-is_bound (x ∷ words) [] word = false
 is_bound (x ∷ words) (p ∷ places) word = if bytes_eq word x then is_some p else is_bound words places word
+is_bound _ _ word = false
 
 abbrev IsAmong : List (List ℕ) → List ℕ → Type 0
 IsAmong words word = list_any (bytes_eq word) words ≡ true
@@ -33,9 +32,8 @@ either_way false c = refl
 -- a label that is added is not bound
 more_bound : (words : List (List ℕ)) (places : List (Option Place)) (x word : List ℕ) → length places ≡ length words → is_bound (words ++ x ∷ []) (places ++ None ∷ []) word ≡ is_bound words places word
 more_bound [] [] x word e = either_way (bytes_eq word x) false
-more_bound [] (p ∷ places) x word e = absurd (omega (arith, e))
-more_bound (y ∷ words) [] x word e = absurd (omega (arith, e))
 more_bound (y ∷ words) (p ∷ places) x word e = ap (λ b. if bytes_eq word y then is_some p else b) (more_bound words places x word (omega (arith, e)))
+more_bound _ _ x word e = absurd (omega (arith, e))
 
 -- the label of a word's number is unbound exactly where the word is not bound
 unbound_among : (words : List (List ℕ)) (places : List (Option Place)) (word : List ℕ) → length places ≡ length words → IsAmong words word

@@ -7,7 +7,7 @@ use Rattle.std.proofs.lemmas.Grind.{common_steps}
 use Rattle.std.proofs.lemmas.List.Sums.{position_or_len_is}
 use Rattle.lg_op.specs.declared.node.Node.{Node}
 use Rattle.lg_op.specs.declared.op.Op.{Op}
-use Rattle.lg_op.specs.declared.op.Op.TheVariants.{Binary, Wide, Branch, BranchSum, Control, Unary, Plain, Load, Store, Retval, Getarg}
+use Rattle.lg_op.specs.declared.op.Op.TheVariants.{Binary, Control, Plain}
 use Rattle.lg_op.specs.declared.op.ControlOp.TheVariants as control
 use Rattle.lg_op.specs.declared.op.PlainOp.TheVariants as plain
 use Rattle.lg_op.specs.declared.operand.Label.{Label}
@@ -28,111 +28,21 @@ bad_is (Some call) varies labelled op = refl
 
 after_is : (p : Option Preparation) (op : Op) → variadic_of (prepared_after p op) ≡ variadic_after (variadic_of p) op
 after_is None (Binary o last) = refl
-after_is None (Wide o last) = refl
-after_is None (Branch o last) = refl
-after_is None (BranchSum o last) = refl
 after_is None (Control control.Jmp last) = refl
-after_is None (Control control.Call last) = refl
-after_is None (Control control.Finish last) = refl
-after_is None (Control control.Pusharg last) = refl
-after_is None (Control control.Ret last) = refl
-after_is None (Unary o) = refl
 after_is None (Plain plain.Movi) = refl
-after_is None (Plain plain.Prepare) = refl
-after_is None (Plain plain.Ellipsis) = refl
-after_is None (Plain plain.Prolog) = refl
-after_is None (Plain plain.Epilog) = refl
-after_is None (Plain plain.Ret) = refl
-after_is None (Plain plain.Arg) = refl
-after_is None (Plain plain.Allocai) = refl
-after_is None (Plain plain.Align) = refl
-after_is None (Plain plain.VaStart) = refl
-after_is None (Plain plain.VaArg) = refl
-after_is None (Plain plain.VaEnd) = refl
-after_is None (Load t at) = refl
-after_is None (Store t at) = refl
-after_is None (Retval t) = refl
-after_is None (Getarg t) = refl
 after_is (Some call) (Binary o last) = refl
-after_is (Some call) (Wide o last) = refl
-after_is (Some call) (Branch o last) = refl
-after_is (Some call) (BranchSum o last) = refl
 after_is (Some call) (Control control.Jmp last) = refl
-after_is (Some call) (Control control.Call last) = refl
-after_is (Some call) (Control control.Finish last) = refl
-after_is (Some call) (Control control.Pusharg last) = refl
-after_is (Some call) (Control control.Ret last) = refl
-after_is (Some call) (Unary o) = refl
 after_is (Some call) (Plain plain.Movi) = refl
-after_is (Some call) (Plain plain.Prepare) = refl
-after_is (Some call) (Plain plain.Ellipsis) = refl
-after_is (Some call) (Plain plain.Prolog) = refl
-after_is (Some call) (Plain plain.Epilog) = refl
-after_is (Some call) (Plain plain.Ret) = refl
-after_is (Some call) (Plain plain.Arg) = refl
-after_is (Some call) (Plain plain.Allocai) = refl
-after_is (Some call) (Plain plain.Align) = refl
-after_is (Some call) (Plain plain.VaStart) = refl
-after_is (Some call) (Plain plain.VaArg) = refl
-after_is (Some call) (Plain plain.VaEnd) = refl
-after_is (Some call) (Load t at) = refl
-after_is (Some call) (Store t at) = refl
-after_is (Some call) (Retval t) = refl
-after_is (Some call) (Getarg t) = refl
+after_is _ _ = refl
 
 varies_is : (varies : Bool) (p : Option Preparation) (op : Op) → varies_after varies p op ≡ varies_by varies (variadic_of p) op
 varies_is varies None (Binary o last) = refl
-varies_is varies None (Wide o last) = refl
-varies_is varies None (Branch o last) = refl
-varies_is varies None (BranchSum o last) = refl
 varies_is varies None (Control control.Jmp last) = refl
-varies_is varies None (Control control.Call last) = refl
-varies_is varies None (Control control.Finish last) = refl
-varies_is varies None (Control control.Pusharg last) = refl
-varies_is varies None (Control control.Ret last) = refl
-varies_is varies None (Unary o) = refl
 varies_is varies None (Plain plain.Movi) = refl
-varies_is varies None (Plain plain.Prepare) = refl
-varies_is varies None (Plain plain.Ellipsis) = refl
-varies_is varies None (Plain plain.Prolog) = refl
-varies_is varies None (Plain plain.Epilog) = refl
-varies_is varies None (Plain plain.Ret) = refl
-varies_is varies None (Plain plain.Arg) = refl
-varies_is varies None (Plain plain.Allocai) = refl
-varies_is varies None (Plain plain.Align) = refl
-varies_is varies None (Plain plain.VaStart) = refl
-varies_is varies None (Plain plain.VaArg) = refl
-varies_is varies None (Plain plain.VaEnd) = refl
-varies_is varies None (Load t at) = refl
-varies_is varies None (Store t at) = refl
-varies_is varies None (Retval t) = refl
-varies_is varies None (Getarg t) = refl
 varies_is varies (Some call) (Binary o last) = refl
-varies_is varies (Some call) (Wide o last) = refl
-varies_is varies (Some call) (Branch o last) = refl
-varies_is varies (Some call) (BranchSum o last) = refl
 varies_is varies (Some call) (Control control.Jmp last) = refl
-varies_is varies (Some call) (Control control.Call last) = refl
-varies_is varies (Some call) (Control control.Finish last) = refl
-varies_is varies (Some call) (Control control.Pusharg last) = refl
-varies_is varies (Some call) (Control control.Ret last) = refl
-varies_is varies (Some call) (Unary o) = refl
 varies_is varies (Some call) (Plain plain.Movi) = refl
-varies_is varies (Some call) (Plain plain.Prepare) = refl
-varies_is varies (Some call) (Plain plain.Ellipsis) = refl
-varies_is varies (Some call) (Plain plain.Prolog) = refl
-varies_is varies (Some call) (Plain plain.Epilog) = refl
-varies_is varies (Some call) (Plain plain.Ret) = refl
-varies_is varies (Some call) (Plain plain.Arg) = refl
-varies_is varies (Some call) (Plain plain.Allocai) = refl
-varies_is varies (Some call) (Plain plain.Align) = refl
-varies_is varies (Some call) (Plain plain.VaStart) = refl
-varies_is varies (Some call) (Plain plain.VaArg) = refl
-varies_is varies (Some call) (Plain plain.VaEnd) = refl
-varies_is varies (Some call) (Load t at) = refl
-varies_is varies (Some call) (Store t at) = refl
-varies_is varies (Some call) (Retval t) = refl
-varies_is varies (Some call) (Getarg t) = refl
+varies_is varies _ _ = refl
 
 pub variadic_start : (nodes : List Node) → variadic nodes 0 ≡ None
 variadic_start nodes = ap variadic_of (prepared_start nodes)

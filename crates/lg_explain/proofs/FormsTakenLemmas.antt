@@ -8,12 +8,12 @@ use Rattle.lg_base.specs.declared.refusal.Refusal.{Refusal}
 use Rattle.lg_base.specs.declared.refusal.RefusalKind.TheVariants.{FloatRefused, TooManyNodes}
 use Rattle.lg_lex.specs.declared.token.Token.{Token}
 use Rattle.lg_lex.specs.declared.token.TokenKind.{TokenKind}
-use Rattle.lg_lex.specs.declared.token.TokenKind.TheVariants.{Word, Directive, LabelMark, Register, Number, Character, Expression, Name, Host, Str}
+use Rattle.lg_lex.specs.declared.token.TokenKind.TheVariants.{Word}
 use Rattle.lg_node.specs.Functions.{is_prolog}
 use Rattle.lg_op.specs.declared.form.Form.{Form}
 use Rattle.lg_op.specs.declared.form.Form.TheVariants.{Immediate}
 use Rattle.lg_op.specs.declared.op.Op.{Op}
-use Rattle.lg_op.specs.declared.op.Op.TheVariants.{Binary, Wide, Branch, BranchSum, Control, Unary, Plain, Load, Store, Retval, Getarg}
+use Rattle.lg_op.specs.declared.op.Op.TheVariants.{Plain}
 use Rattle.lg_op.specs.declared.op.PlainOp.TheVariants as plain
 use Rattle.lg_op.specs.declared.operand.Operand.{Operand}
 use Rattle.lg_tst.specs.Names.{no_names}
@@ -33,40 +33,12 @@ Takes left n read = IfOk read (λ u. length left ≡ n + length u.source.left)
 
 pub noted_same : (k : TokenKind) (s : State) (form : Form) (done : List Operand) (text : List ℕ) → (noted_by k s form done text).source ≡ s.source
 noted_same Word s form done text = refl
-noted_same Directive s form done text = refl
-noted_same LabelMark s form done text = refl
-noted_same Register s form done text = refl
-noted_same Number s form done text = refl
-noted_same Character s form done text = refl
-noted_same Expression s form done text = refl
-noted_same Name s form done text = refl
-noted_same Host s form done text = refl
-noted_same Str s form done text = refl
+noted_same _ s form done text = refl
 
 -- what begins with an instruction: the names of the next function, with `prolog`
 pub begun_is : (op : Op) (s : State) → begun op s ≡ (if is_prolog op then record s { names = no_names } else s)
 begun_is (Plain plain.Prolog) s = refl
-begun_is (Plain plain.Movi) s = refl
-begun_is (Plain plain.Prepare) s = refl
-begun_is (Plain plain.Ellipsis) s = refl
-begun_is (Plain plain.Epilog) s = refl
-begun_is (Plain plain.Ret) s = refl
-begun_is (Plain plain.Arg) s = refl
-begun_is (Plain plain.Allocai) s = refl
-begun_is (Plain plain.Align) s = refl
-begun_is (Plain plain.VaStart) s = refl
-begun_is (Plain plain.VaArg) s = refl
-begun_is (Plain plain.VaEnd) s = refl
-begun_is (Binary op last) s = refl
-begun_is (Wide op last) s = refl
-begun_is (Branch op last) s = refl
-begun_is (BranchSum op last) s = refl
-begun_is (Control op last) s = refl
-begun_is (Unary op) s = refl
-begun_is (Load t at) s = refl
-begun_is (Store t at) s = refl
-begun_is (Retval t) s = refl
-begun_is (Getarg t) s = refl
+begun_is _ s = refl
 
 pub begun_same : (op : Op) (s : State) → (begun op s).source ≡ s.source
 begun_same op s = ap (λ z. z.source) (begun_is op s) ∙ by (is_prolog op)

@@ -2,11 +2,11 @@
 use Rattle.std.proofs.Common.{◌≡◌, ℕ, Bool, true, false, List, Option, Some, None, Ok, Err, drop, refl, ap, ◌∙◌}
 use Rattle.std.specs.Prelude.{not, if◌then◌else◌}
 use Rattle.lg_base.specs.declared.refusal.RefusalKind.TheVariants.{BadOperand}
-use Rattle.lg_lex.specs.declared.token.TokenKind.TheVariants.{Word, Directive, LabelMark, Register, Number, Character, Expression, Name, Host, Str}
+use Rattle.lg_lex.specs.declared.token.TokenKind.TheVariants.{Word, Number, Character, Expression, Name}
 use Rattle.lg_node.specs.Nodes.{number_of}
 use Rattle.lg_op.specs.Forms.{admits}
 use Rattle.lg_op.specs.declared.form.Form.{Form}
-use Rattle.lg_op.specs.declared.form.Form.TheVariants.{Write, Update, Read, Immediate, Target, Callee, NewArgument, Argument, NewLocal, Size, Alignment, ArgumentCount}
+use Rattle.lg_op.specs.declared.form.Form.TheVariants.{Write, Immediate, NewArgument, Argument, NewLocal}
 use Rattle.lg_op.specs.declared.operand.Label.{Label}
 use Rattle.lg_op.specs.declared.operand.Operand.{Operand}
 use Rattle.lg_op.specs.declared.operand.Operand.TheVariants as operand
@@ -23,17 +23,7 @@ by_test false x = refl
 -- which label it is makes no difference
 any_label : (form : Form) (l m : Label) → admits form (operand.Label l) ≡ admits form (operand.Label m)
 any_label Write l m = refl
-any_label Update l m = refl
-any_label Read l m = refl
-any_label Immediate l m = refl
-any_label Target l m = refl
-any_label Callee l m = refl
-any_label NewArgument l m = refl
-any_label Argument l m = refl
-any_label NewLocal l m = refl
-any_label Size l m = refl
-any_label Alignment l m = refl
-any_label ArgumentCount l m = refl
+any_label _ l m = refl
 
 -- names are refused for other reasons
 made : (b : Bool) (n : ℕ) → false ≡ is_bad (new_name b n)
@@ -43,43 +33,26 @@ made false n = refl
 argument : (o : Option Operand) → false ≡ is_bad (argument_named o)
 argument None = refl
 argument (Some (operand.Reg r)) = refl
-argument (Some (operand.Number n)) = refl
-argument (Some (operand.Label l)) = refl
-argument (Some (operand.Host h)) = refl
-argument (Some (operand.Slot s)) = refl
+argument _ = refl
 
 local : (o : Option Operand) → false ≡ is_bad (local_named o)
 local None = refl
 local (Some (operand.Reg r)) = refl
-local (Some (operand.Number n)) = refl
-local (Some (operand.Label l)) = refl
-local (Some (operand.Host h)) = refl
-local (Some (operand.Slot s)) = refl
+local _ = refl
 
 name : (form : Form) (names : FunctionNames) (word : List ℕ) → not (takes_name form) ≡ is_bad (name_operand form names word)
-name Write names word = refl
-name Update names word = refl
-name Read names word = refl
 name Immediate names word = local (meaning_of names word)
-name Target names word = refl
-name Callee names word = refl
 name NewArgument names word = made (is_made names word) names.arguments
 name Argument names word = argument (meaning_of names word)
 name NewLocal names word = made (is_made names word) names.locals
-name Size names word = refl
-name Alignment names word = refl
-name ArgumentCount names word = refl
+name _ names word = refl
 
 pub misfits : MisfitsAreRefused
 misfits words names form Word text value =
     let label : Label = record { 0 = number_of words text } in
     ap not (any_label form (record { 0 = 0 }) label) ∙ by_test (admits form (operand.Label label)) (operand.Label label)
-misfits words names form Directive text value = refl
-misfits words names form LabelMark text value = refl
-misfits words names form Register text value = refl
 misfits words names form Number text value = by_test (admits form (operand.Number value)) (operand.Number value)
 misfits words names form Character text value = by_test (admits form (operand.Number value)) (operand.Number value)
 misfits words names form Expression text value = by_test (admits form (operand.Number value)) (operand.Number value)
 misfits words names form Name text value = name form names (drop 1 text)
-misfits words names form Host text value = refl
-misfits words names form Str text value = refl
+misfits words names form _ text value = refl

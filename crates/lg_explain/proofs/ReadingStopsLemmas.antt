@@ -10,12 +10,12 @@ use Rattle.lg_base.specs.declared.refusal.RefusalKind.{RefusalKind}
 use Rattle.lg_base.specs.declared.refusal.RefusalKind.TheVariants.{BadOperand, DataFull, FloatRefused, LabelTwice, TooManyNodes, UnknownName}
 use Rattle.lg_lex.specs.declared.token.Token.{Token}
 use Rattle.lg_lex.specs.declared.token.TokenKind.{TokenKind}
-use Rattle.lg_lex.specs.declared.token.TokenKind.TheVariants.{Word, Directive, LabelMark, Register, Number, Character, Expression, Name, Host, Str}
+use Rattle.lg_lex.specs.declared.token.TokenKind.TheVariants.{Word, Directive, LabelMark, Register, Number, Character, Expression, Name, Host}
 use Rattle.lg_node.specs.Functions.{is_prolog}
 use Rattle.lg_node.specs.Nodes.{mentioned, number_of, with_place}
 use Rattle.lg_node.specs.declared.place.Place.{Place}
 use Rattle.lg_op.specs.declared.form.Form.{Form}
-use Rattle.lg_op.specs.declared.form.Form.TheVariants.{Write, Update, Read, Immediate, Target, Callee, NewArgument, Argument, NewLocal, Size, Alignment, ArgumentCount}
+use Rattle.lg_op.specs.declared.form.Form.TheVariants.{Immediate, NewArgument, Argument, NewLocal, Alignment}
 use Rattle.lg_op.specs.declared.op.Op.{Op}
 use Rattle.lg_op.specs.declared.op.Op.TheVariants.{Plain}
 use Rattle.lg_op.specs.declared.op.PlainOp.TheVariants as plain
@@ -208,14 +208,7 @@ module _ (text : List ℕ) where
     name_verdict NewLocal = new_local (names_spec.is_made s.names (drop 1 word)) refl
     name_verdict Argument = plainly op Argument forms done s labels names h Name word _ (argument_mild (meaning_of s.names (drop 1 word))) (refl, as_before op Argument forms done s labels names h)
     name_verdict Immediate = plainly op Immediate forms done s labels names h Name word _ (local_mild (meaning_of s.names (drop 1 word))) (refl, as_before op Immediate forms done s labels names h)
-    name_verdict Write = λ e. absurd (bad_operand e)
-    name_verdict Update = λ e. absurd (bad_operand e)
-    name_verdict Read = λ e. absurd (bad_operand e)
-    name_verdict Target = λ e. absurd (bad_operand e)
-    name_verdict Callee = λ e. absurd (bad_operand e)
-    name_verdict Size = λ e. absurd (bad_operand e)
-    name_verdict Alignment = λ e. absurd (bad_operand e)
-    name_verdict ArgumentCount = λ e. absurd (bad_operand e)
+    name_verdict _ = λ e. absurd (bad_operand e)
 
   -- any token
   module _ (op : Op) (form : Form) (forms : List Form) (done : List Operand) (s : State) (labels names : List (List ℕ)) (h : HasMade s labels names) where
@@ -235,9 +228,7 @@ module _ (text : List ℕ) where
     verdict Number word value = no_name Number word _ (admitted_mild form (operand.Number value)) refl h
     verdict Character word value = no_name Character word _ (admitted_mild form (operand.Number value)) refl h
     verdict Expression word value = no_name Expression word _ (admitted_mild form (operand.Number value)) refl h
-    verdict Directive word value = λ e. absurd (bad_operand e)
-    verdict LabelMark word value = λ e. absurd (bad_operand e)
-    verdict Str word value = λ e. absurd (bad_operand e)
+    verdict _ word value = λ e. absurd (bad_operand e)
 
     -- and then the rest of the instruction
     operand_then : (r : Result Operand RefusalKind) (kind : TokenKind) (word : List ℕ) (t : Token) (more : List Token) (f : Operand → Result State Refusal) → IsToken t kind word
@@ -304,11 +295,7 @@ module _ (text : List ℕ) where
       by Expression e all = number (admitted Alignment (operand.Number value)) (ap is_quiet e) (λ x. all x refl) (admitted_mild Alignment (operand.Number value))
       by Register e all = number (register_operand Alignment word) (ap is_quiet e) (λ x. all x refl) (register_mild Alignment word)
       by Host e all = number (host_operand Alignment (host_by_name (drop 1 word))) (ap is_quiet e) (λ x. all x refl) (host_mild Alignment (host_by_name (drop 1 word)))
-      by Word e all = refused BadOperand line (t ∷ more) labels names [] bad_operand
-      by Name e all = refused BadOperand line (t ∷ more) labels names [] bad_operand
-      by Directive e all = refused BadOperand line (t ∷ more) labels names [] bad_operand
-      by LabelMark e all = refused BadOperand line (t ∷ more) labels names [] bad_operand
-      by Str e all = refused BadOperand line (t ∷ more) labels names [] bad_operand
+      by _ e all = refused BadOperand line (t ∷ more) labels names [] bad_operand
 
   align_follows : (s : State) (line : ℕ) (labels names : List (List ℕ)) → HasMade s labels names → Follows (instruction (Plain plain.Align) s line) s.source.left labels names []
   unfolding operands
@@ -550,13 +537,8 @@ module _ (text : List ℕ) where
       by_directive section.Data (Some directive.Short) = then_ (values Two s t.line) (values_follow Two s t.line labels names h)
       by_directive section.Data (Some directive.Int) = then_ (values Four s t.line) (values_follow Four s t.line labels names h)
       by_directive section.Data (Some directive.Long) = then_ (values Eight s t.line) (values_follow Eight s t.line labels names h)
-      by_directive section.Code (Some directive.Size) = refused_here UnknownName unknown_name
-      by_directive section.Code (Some directive.Char) = refused_here UnknownName unknown_name
-      by_directive section.Code (Some directive.Short) = refused_here UnknownName unknown_name
-      by_directive section.Code (Some directive.Int) = refused_here UnknownName unknown_name
-      by_directive section.Code (Some directive.Long) = refused_here UnknownName unknown_name
       by_directive section.Code None = refused_here UnknownName unknown_name
-      by_directive section.Data None = refused_here UnknownName unknown_name
+      by_directive _ _ = refused_here UnknownName unknown_name
 
     by_register : (b : Bool) → Follows (statement_by (if b then Err FloatRefused else Err UnknownName) s t) here_left labels names []
     by_register true = refused_here FloatRefused float_refused
@@ -567,12 +549,7 @@ module _ (text : List ℕ) where
     by_kind Directive e = by_directive (ap is_quiet e) s.section (directive_of (token_text s t))
     by_kind LabelMark e = label_follows s t labels names h e
     by_kind Register e = by_register (is_float_register (token_text s t))
-    by_kind Number e = refused_here UnknownName unknown_name
-    by_kind Character e = refused_here UnknownName unknown_name
-    by_kind Expression e = refused_here UnknownName unknown_name
-    by_kind Name e = refused_here UnknownName unknown_name
-    by_kind Host e = refused_here UnknownName unknown_name
-    by_kind Str e = refused_here UnknownName unknown_name
+    by_kind _ e = refused_here UnknownName unknown_name
 
     statement_follows : Follows (statement_from s t) (t ∷ s.source.left) labels names []
     statement_follows = by_kind t.kind refl

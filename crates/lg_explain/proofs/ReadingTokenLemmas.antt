@@ -24,7 +24,7 @@ use Rattle.lg_tst.specs.Names as names_spec
 use Rattle.lg_tst.specs.Statements.{is_number, is_value}
 use Rattle.lg_tst.specs.Units.{is_digits, is_string}
 use Rattle.lg_tst.specs.declared.statement.ItemSize.{ItemSize}
-use Rattle.lg_tst.specs.declared.statement.ItemSize.TheVariants.{One, Two, Four, Eight}
+use Rattle.lg_tst.specs.declared.statement.ItemSize.TheVariants.{One}
 use Rattle.lg_explain.specs.Twice.{again, forms_after, is_made, labels_after, made_again, names_after, with_word}
 use Rattle.lg_explain.proofs.BoundLemmas.{one_more}
 
@@ -64,14 +64,7 @@ misfit_other Host word = by (host_by_name (drop 1 word))
     by : (o : Option HostName) → IsOther (host_misfit o)
     by (Some h) = bad_operand
     by None = λ e. cc
-misfit_other Word word = bad_operand
-misfit_other Directive word = bad_operand
-misfit_other LabelMark word = bad_operand
-misfit_other Number word = bad_operand
-misfit_other Character word = bad_operand
-misfit_other Expression word = bad_operand
-misfit_other Name word = bad_operand
-misfit_other Str word = bad_operand
+misfit_other _ word = bad_operand
 
 -- ---- operands that are refused for another reason
 abbrev pub IsMild : Result Operand RefusalKind → Type 0
@@ -98,20 +91,12 @@ host_mild form None = λ e. cc
 host_mild form (Some h) = admitted_mild form (operand.Host h)
 
 pub argument_mild : (o : Option Operand) → IsMild (argument_named o)
-argument_mild None = λ e. cc
 argument_mild (Some (operand.Slot n)) = tt
-argument_mild (Some (operand.Reg r)) = λ e. cc
-argument_mild (Some (operand.Number n)) = λ e. cc
-argument_mild (Some (operand.Label l)) = λ e. cc
-argument_mild (Some (operand.Host h)) = λ e. cc
+argument_mild _ = λ e. cc
 
 pub local_mild : (o : Option Operand) → IsMild (local_named o)
-local_mild None = λ e. cc
 local_mild (Some (operand.Number n)) = tt
-local_mild (Some (operand.Reg r)) = λ e. cc
-local_mild (Some (operand.Slot n)) = λ e. cc
-local_mild (Some (operand.Label l)) = λ e. cc
-local_mild (Some (operand.Host h)) = λ e. cc
+local_mild _ = λ e. cc
 
 -- ---- words that are made
 pub made_none : (words : List (List ℕ)) (word : List ℕ) → is_made words word ≡ false → made_again words word ≡ None
@@ -125,9 +110,8 @@ with_new words word e = ap (λ b. if b then words else words ++ word ∷ []) e
 
 pub or_turned : (a b : Bool) → (a || (b || false)) ≡ (b || a)
 or_turned true true = refl
-or_turned true false = refl
 or_turned false true = refl
-or_turned false false = refl
+or_turned _ _ = refl
 
 pub made_with : (words : List (List ℕ)) (word other : List ℕ) → is_made (words ++ word ∷ []) other ≡ (bytes_eq other word || is_made words other)
 made_with words word other = list_any-append (bytes_eq other) words (word ∷ []) ∙ or_turned (is_made words other) (bytes_eq other word)
@@ -168,36 +152,15 @@ Passed kind word labels names =
 pub quiet_passed : (kind : TokenKind) (word : List ℕ) (labels names : List (List ℕ)) → is_quiet kind ≡ true → Passed kind word labels names
 quiet_passed Word word labels names e = cc
 quiet_passed LabelMark word labels names e = cc
-quiet_passed Directive word labels names e = (refl, refl, refl, refl)
-quiet_passed Register word labels names e = (refl, refl, refl, refl)
-quiet_passed Number word labels names e = (refl, refl, refl, refl)
-quiet_passed Character word labels names e = (refl, refl, refl, refl)
-quiet_passed Expression word labels names e = (refl, refl, refl, refl)
-quiet_passed Name word labels names e = (refl, refl, refl, refl)
-quiet_passed Host word labels names e = (refl, refl, refl, refl)
-quiet_passed Str word labels names e = (refl, refl, refl, refl)
+quiet_passed _ word labels names e = (refl, refl, refl, refl)
 
 pub number_quiet : (kind : TokenKind) → is_number kind ≡ true → is_quiet kind ≡ true
 number_quiet Word e = cc
 number_quiet LabelMark e = cc
-number_quiet Directive e = refl
-number_quiet Register e = refl
-number_quiet Number e = refl
-number_quiet Character e = refl
-number_quiet Expression e = refl
-number_quiet Name e = refl
-number_quiet Host e = refl
-number_quiet Str e = refl
+number_quiet _ e = refl
 
 pub value_quiet : (size : ItemSize) (kind : TokenKind) → is_value size kind ≡ true → is_quiet kind ≡ true
 value_quiet One Word e = cc
-value_quiet Two Word e = cc
-value_quiet Four Word e = cc
-value_quiet Eight Word e = cc
-value_quiet One LabelMark e = cc
-value_quiet Two LabelMark e = cc
-value_quiet Four LabelMark e = cc
-value_quiet Eight LabelMark e = cc
 value_quiet size Directive e = refl
 value_quiet size Register e = refl
 value_quiet size Number e = refl
@@ -206,27 +169,14 @@ value_quiet size Expression e = refl
 value_quiet size Name e = refl
 value_quiet size Host e = refl
 value_quiet size Str e = refl
+value_quiet _ _ e = cc
 
 pub string_quiet : (kind : TokenKind) → is_string kind ≡ true → is_quiet kind ≡ true
 string_quiet Word e = cc
 string_quiet LabelMark e = cc
-string_quiet Directive e = refl
-string_quiet Register e = refl
-string_quiet Number e = refl
-string_quiet Character e = refl
-string_quiet Expression e = refl
-string_quiet Name e = refl
-string_quiet Host e = refl
-string_quiet Str e = refl
+string_quiet _ e = refl
 
 pub digits_quiet : (kind : TokenKind) → is_digits kind ≡ true → is_quiet kind ≡ true
 digits_quiet Word e = cc
 digits_quiet LabelMark e = cc
-digits_quiet Directive e = refl
-digits_quiet Register e = refl
-digits_quiet Number e = refl
-digits_quiet Character e = refl
-digits_quiet Expression e = refl
-digits_quiet Name e = refl
-digits_quiet Host e = refl
-digits_quiet Str e = refl
+digits_quiet _ e = refl

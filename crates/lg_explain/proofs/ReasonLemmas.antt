@@ -81,16 +81,7 @@ module _ (t : Text) (n : Node) (s : State) where
   second_row (op.Binary o last) q e =
       let h = so (sets_carry o && is_none (carry_in o s.carry)) NoCarry q e in
       subst (H (op.Binary o last)) h.1 (record { binary = o; last = last; is = refl; none = nothing (carry_in o s.carry) (both (sets_carry o) (is_none (carry_in o s.carry)) h.0) })
-  second_row (op.Wide o last) q e = cc
-  second_row (op.Branch o last) q e = cc
-  second_row (op.BranchSum o last) q e = cc
-  second_row (op.Control o last) q e = cc
-  second_row (op.Unary o) q e = cc
-  second_row (op.Plain o) q e = cc
-  second_row (op.Load v at) q e = cc
-  second_row (op.Store v at) q e = cc
-  second_row (op.Retval v) q e = cc
-  second_row (op.Getarg v) q e = cc
+  second_row _ q e = cc
 
   fourth_row : (o : Op) (q : Reason) → row_4 t n o s ≡ Some q → H o q
   fourth_row (op.Binary o last) q e =
@@ -103,15 +94,7 @@ module _ (t : Text) (n : Node) (s : State) where
       let b = there (value t.addresses s (operand_at n 3)) (λ b. where_so (cannot_divide_widely o a.0 b) (NoQuotient a.0 b)) q a.2 in
       let h = so (cannot_divide_widely o a.0 b.0) (NoQuotient a.0 b.0) q b.2 in
       subst (H (op.Wide o last)) h.1 (HasNoQuotient.of_two_words o last a.1 b.1 h.0)
-  fourth_row (op.Branch o last) q e = cc
-  fourth_row (op.BranchSum o last) q e = cc
-  fourth_row (op.Control o last) q e = cc
-  fourth_row (op.Unary o) q e = cc
-  fourth_row (op.Plain o) q e = cc
-  fourth_row (op.Load v at) q e = cc
-  fourth_row (op.Store v at) q e = cc
-  fourth_row (op.Retval v) q e = cc
-  fourth_row (op.Getarg v) q e = cc
+  fourth_row _ q e = cc
 
   turned : (b : Bool) → not b ≡ true → b ≡ false
   turned false e = refl
@@ -137,36 +120,14 @@ module _ (t : Text) (n : Node) (s : State) where
   sixth_row (op.Store v at) q e =
       let a = there (address t.addresses s at n 0) (λ a. outside s a (store_width v)) q e in
       outside_row (op.Store v at) q a.0 (store_width v) (record { addressing = at; index = 0; is = a.1 }) a.2
-  sixth_row (op.Binary o last) q e = cc
-  sixth_row (op.Wide o last) q e = cc
-  sixth_row (op.Branch o last) q e = cc
-  sixth_row (op.BranchSum o last) q e = cc
-  sixth_row (op.Control o last) q e = cc
-  sixth_row (op.Unary o) q e = cc
-  sixth_row (op.Plain o) q e = cc
-  sixth_row (op.Retval v) q e = cc
-  sixth_row (op.Getarg v) q e = cc
+  sixth_row _ q e = cc
 
   seventh_row : (o : Op) (q : Reason) → row_7 t n o s ≡ Some q → H o q
   seventh_row (op.Control control.Jmp last_operand.Register) q e =
       let w = there (value t.addresses s (operand_at n 0)) (λ w. where_none (jump_target t s.at w) (NoLabel w)) q e in
       let h = none (jump_target t s.at w.0) (NoLabel w.0) q w.2 in
       subst (H (op.Control control.Jmp last_operand.Register)) h.1 (w.1, h.0)
-  seventh_row (op.Control control.Jmp last_operand.Immediate) q e = cc
-  seventh_row (op.Control control.Call last) q e = cc
-  seventh_row (op.Control control.Finish last) q e = cc
-  seventh_row (op.Control control.Pusharg last) q e = cc
-  seventh_row (op.Control control.Ret last) q e = cc
-  seventh_row (op.Binary o last) q e = cc
-  seventh_row (op.Wide o last) q e = cc
-  seventh_row (op.Branch o last) q e = cc
-  seventh_row (op.BranchSum o last) q e = cc
-  seventh_row (op.Unary o) q e = cc
-  seventh_row (op.Plain o) q e = cc
-  seventh_row (op.Load v at) q e = cc
-  seventh_row (op.Store v at) q e = cc
-  seventh_row (op.Retval v) q e = cc
-  seventh_row (op.Getarg v) q e = cc
+  seventh_row _ q e = cc
 
   eighth_row : (o : Op) (q : Reason) → row_8 t n o s ≡ Some q → H o q
   eighth_row o q e =
@@ -187,35 +148,16 @@ module _ (t : Text) (n : Node) (s : State) where
 
   tenth_row : (o : Op) (q : Reason) → row_10 o s ≡ Some q → H o q
   tenth_row (op.Retval v) q e = let h = none s.answer NoResult q e in subst (H (op.Retval v)) h.1 h.0
-  tenth_row (op.Binary o last) q e = cc
-  tenth_row (op.Wide o last) q e = cc
-  tenth_row (op.Branch o last) q e = cc
-  tenth_row (op.BranchSum o last) q e = cc
-  tenth_row (op.Control o last) q e = cc
-  tenth_row (op.Unary o) q e = cc
-  tenth_row (op.Plain o) q e = cc
-  tenth_row (op.Load v at) q e = cc
-  tenth_row (op.Store v at) q e = cc
-  tenth_row (op.Getarg v) q e = cc
+  tenth_row _ q e = cc
 
   eleventh_row : (o : Op) (q : Reason) → row_11 n o s ≡ Some q → H o q
   eleventh_row (op.Getarg v) q e =
       let h = none (slice_get s.frame.args (slot (operand_at n 1))) (NoArgument (slot (operand_at n 1))) q e in subst (H (op.Getarg v)) h.1 (refl, h.0)
-  eleventh_row (op.Binary o last) q e = cc
-  eleventh_row (op.Wide o last) q e = cc
-  eleventh_row (op.Branch o last) q e = cc
-  eleventh_row (op.BranchSum o last) q e = cc
-  eleventh_row (op.Control o last) q e = cc
-  eleventh_row (op.Unary o) q e = cc
-  eleventh_row (op.Plain o) q e = cc
-  eleventh_row (op.Load v at) q e = cc
-  eleventh_row (op.Store v at) q e = cc
-  eleventh_row (op.Retval v) q e = cc
+  eleventh_row _ q e = cc
 
   undefined : (h : Host) → is_undefined h ≡ true → h ≡ host.Undefined
-  undefined (Gives v changes mark bytes) e = cc
-  undefined (Exits status) e = cc
   undefined host.Undefined e = refl
+  undefined _ e = cc
 
   twelfth_row : (o : Op) (q : Reason) → row_12 t n o s ≡ Some q → H o q
   twelfth_row o q e = let c = there (called_from t n o s) (is_not_allowed s (passed_by o s)) q e in by c.0 c.1 c.2
@@ -232,27 +174,7 @@ module _ (t : Text) (n : Node) (s : State) where
       let i = there (value t.addresses s (operand_at n 1)) (λ i. where_none (slice_get s.frame.args i) (NoVariable i)) q e in
       let h = none (slice_get s.frame.args i.0) (NoVariable i.0) q i.2 in
       subst (H (op.Plain plain.VaArg)) h.1 (i.1, h.0)
-  thirteenth_row (op.Plain plain.Movi) q e = cc
-  thirteenth_row (op.Plain plain.Arg) q e = cc
-  thirteenth_row (op.Plain plain.Allocai) q e = cc
-  thirteenth_row (op.Plain plain.Align) q e = cc
-  thirteenth_row (op.Plain plain.VaStart) q e = cc
-  thirteenth_row (op.Plain plain.VaEnd) q e = cc
-  thirteenth_row (op.Plain plain.Prepare) q e = cc
-  thirteenth_row (op.Plain plain.Ellipsis) q e = cc
-  thirteenth_row (op.Plain plain.Prolog) q e = cc
-  thirteenth_row (op.Plain plain.Epilog) q e = cc
-  thirteenth_row (op.Plain plain.Ret) q e = cc
-  thirteenth_row (op.Binary o last) q e = cc
-  thirteenth_row (op.Wide o last) q e = cc
-  thirteenth_row (op.Branch o last) q e = cc
-  thirteenth_row (op.BranchSum o last) q e = cc
-  thirteenth_row (op.Control o last) q e = cc
-  thirteenth_row (op.Unary o) q e = cc
-  thirteenth_row (op.Load v at) q e = cc
-  thirteenth_row (op.Store v at) q e = cc
-  thirteenth_row (op.Retval v) q e = cc
-  thirteenth_row (op.Getarg v) q e = cc
+  thirteenth_row _ q e = cc
 
   -- one of the rows holds
   pub by_rows : (o : Op) (q : Reason) → why_of t n o s ≡ Some q → H o q

@@ -8,14 +8,12 @@ use Rattle.lg_explain.specs.Lines.{most_shown, shown, shown_byte}
 
 -- at most this many are taken, and what has no room is left out, sooner or later
 pub take_short : {X : Type 0} (n : ℕ) (xs : List X) → length (take n xs) ≤ n
-take_short zero xs = omega arith
-take_short (suc n) [] = omega arith
 take_short (suc n) (x ∷ xs) = let h = take_short n xs in omega (arith, h)
+take_short _ _ = omega arith
 
 pub take_twice : {X : Type 0} (n : ℕ) (xs ys : List X) → take n (take n xs ++ ys) ≡ take n (xs ++ ys)
-take_twice zero xs ys = refl
-take_twice (suc n) [] ys = refl
 take_twice (suc n) (x ∷ xs) ys = ap (λ l. x ∷ l) (take_twice n xs ys)
+take_twice _ _ ys = refl
 
 -- one more, where there is room, and where there is none
 pub with_room : {X : Type 0} (n : ℕ) (xs : List X) (b : X) → length (take n xs) < n → take n (xs ++ b ∷ []) ≡ take n xs ++ b ∷ []

@@ -15,7 +15,7 @@ use Rattle.std.proofs.lemmas.Bool.{eqb-true, ne_eqb}
 use Rattle.lg_x86.proofs.FieldLemmas.{extension_fits}
 use Rattle.lg_x86.proofs.NumberLemmas.{AreBytes}
 use Rattle.lg_x86.proofs.FrontLemmas.{IsOpcode}
-use Rattle.lg_x86.proofs.AcceptLemmas.{same, accepts, with_found, found, unsized, IsRex, Same}
+use Rattle.lg_x86.proofs.AcceptLemmas.{accepts, with_found, found, unsized, IsRex, Same}
 use Rattle.lg_x86.proofs.PrefixLemmas.{end_of, wide_one_is, plain_one_is, low_one_is}
 use Rattle.lg_x86.proofs.TailLemmas.{tail_of, registers_tail, one_tail, word_tail, wide_tail, long_tail, short_tail, plain_opcode, no_tail, accepts_bare}
 

@@ -51,12 +51,7 @@ pub marks_same : (a b : Mark) → same_mark a b ≡ true → a ≡ b
 marks_same Wide Wide e = refl
 marks_same Low Low e = refl
 marks_same Plain Plain e = refl
-marks_same Wide Low e = absurd (let none : ⊥ = cc in none)
-marks_same Wide Plain e = absurd (let none : ⊥ = cc in none)
-marks_same Low Wide e = absurd (let none : ⊥ = cc in none)
-marks_same Low Plain e = absurd (let none : ⊥ = cc in none)
-marks_same Plain Wide e = absurd (let none : ⊥ = cc in none)
-marks_same Plain Low e = absurd (let none : ⊥ = cc in none)
+marks_same _ _ e = absurd (let none : ⊥ = cc in none)
 
 pub record IsRow (s : Bool) (mark : Mark) (e : Bool) (o : ℕ) (row : PrefixRow) : Type 0 where
   pub sized : s ≡ row.word_sized
@@ -218,10 +213,8 @@ bare_same s r rex_is o t len at =
     }))
 
 pub three_read : (t : List ℕ) → 3 ≤ length t → t ≡ (slice_index t 0 ∷ slice_index t 1 ∷ slice_index t 2 ∷ []) ++ drop 3 t
-three_read [] le = absurd (omega (arith, le))
-three_read (a ∷ []) le = absurd (omega (arith, le))
-three_read (a ∷ b ∷ []) le = absurd (omega (arith, le))
 three_read (a ∷ b ∷ c ∷ t) le = refl
+three_read _ le = absurd (omega (arith, le))
 
 pub all_four : (a b c d e f g : Bool) → (a ≡ e) → (b ≡ f) → (c ≡ g) → (a && (b && (c && d))) ≡ (e && (f && (g && d)))
 all_four a b c d e f g x y z = rw (x, y, z) refl

@@ -11,7 +11,7 @@ use Rattle.lg_x86.specs.Spelling.{spelling, IsInstr, IsNumber8, IsNumber32}
 use Rattle.lg_x86.specs.declared.rows.Mark.{Mark}
 use Rattle.lg_x86.specs.declared.rows.Mark.TheVariants.{Wide, Low, Plain}
 use Rattle.lg_x86.specs.declared.instruction.Instr.{Instr}
-use Rattle.lg_x86.specs.declared.instruction.Instr.TheVariants.{RmReg, Imm, RegRm, Load, Store, Lea2, Movi32, Movs32, Movi64, Unary, Shift, Bswap, Stack, JumpIfShort, JumpIfNear, Set, JumpShort, JumpNear, JumpReg, Bare}
+use Rattle.lg_x86.specs.declared.instruction.Instr.TheVariants.{RmReg, Imm, RegRm, Load, Store, Lea2, Movi32, Movs32, Movi64, Unary, Shift, Stack, JumpIfShort, JumpIfNear, Set, JumpNear, JumpReg, Bare}
 use Rattle.lg_x86.specs.declared.instruction.LoadOp.TheVariants.{Lea}
 use Rattle.lg_x86.specs.Reading.{mark_in, has_registers, opcode_reg, digit_in, disp_place, reg_in, rm_in, index_in, base_in, word_in, wide_in, short_in, long_in, number_in, disp_in}
 use Rattle.lg_x86.specs.Reading.{rm_reg_by_opcode, imm_by_digit, reg_rm_by_prefixes, load_by_prefixes, store_by_prefixes, unary_by_digit, shift_by_digit, stack_by_opcode, jump_near_by_opcode, jump_reg_by_digit, bare_by_prefixes, cond_by_number}
@@ -241,26 +241,11 @@ number-word (pos n) h = let small = h.1 in omega (arith, ints, small)
 number-word (negsuc n) h = omega arith
 
 has-words : (i : Instr) → IsInstr i → HasWords i
-has-words (RmReg op rm reg) h = tt
 has-words (Imm op rm imm) h = number-word imm h.1
-has-words (RegRm op reg rm) h = tt
-has-words (Load op reg base disp) h = tt
-has-words (Store op base disp reg) h = tt
-has-words (Lea2 reg base index) h = tt
 has-words (Movi32 reg imm) h = let small = h.1 in omega (arith, small)
 has-words (Movs32 rm imm) h = number-word imm h.1
 has-words (Movi64 reg imm) h = h.1
-has-words (Unary op rm) h = tt
-has-words (Shift op rm count) h = tt
-has-words (Bswap reg) h = tt
-has-words (Stack op reg) h = tt
-has-words (JumpIfShort cond distance) h = tt
-has-words (JumpIfNear cond distance) h = tt
-has-words (Set cond rm) h = tt
-has-words (JumpShort distance) h = tt
-has-words (JumpNear op distance) h = tt
-has-words (JumpReg op rm) h = tt
-has-words (Bare op) h = tt
+has-words _ h = tt
 
 words-of : (o : Option (Instr × ℕ)) → IfSome o (λ found. IsInstr found.0) → IfSome o (λ found. HasWords found.0)
 words-of None h = tt

@@ -7,7 +7,7 @@ use Rattle.lg_x86.specs.declared.rows.Mark.TheVariants.{Wide, Low, Plain}
 use Rattle.lg_x86.specs.Spelling.{extension}
 use Rattle.lg_x86.specs.Reading.{is_wide, is_wide_one, is_plain_one, is_low_one, is_marked, is_low, mark_in}
 use Rattle.lg_x86.proofs.FrontLemmas.{rex_value}
-use Rattle.lg_x86.proofs.AcceptLemmas.{same, true_is, decided, pair_true, pair_is, IsRex, none, some}
+use Rattle.lg_x86.proofs.AcceptLemmas.{true_is, decided, pair_true, pair_is, IsRex, none, some}
 
 pub wide_is : (r reg rm : ℕ) → IsRex r → reg / 8 ≡ r / 4 % 2 → rm / 8 ≡ r % 2 → (r == rex_value Wide (extension reg 0 rm)) ≡ is_wide r
 unfolding is_wide

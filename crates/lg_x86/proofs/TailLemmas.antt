@@ -55,10 +55,6 @@ read_tail t p k long is = by (nat_le k (length t)) refl
     by false e = let lt : length t < k = grind (arith, nat_tests) in too_short p t (omega (arith, lt, long))
 
 pub four_read : (t : List ℕ) → AreBytes t → 4 ≤ length t → t ≡ to_le_bytes w32 (word_in t) ++ drop 4 t
-four_read [] h le = absurd (omega (arith, le))
-four_read (a ∷ []) h le = absurd (omega (arith, le))
-four_read (a ∷ b ∷ []) h le = absurd (omega (arith, le))
-four_read (a ∷ b ∷ c ∷ []) h le = absurd (omega (arith, le))
 four_read (a ∷ b ∷ c ∷ d ∷ t) h le = ap (λ xs. xs ++ t) (sym (le_bytes_4 (a ∷ b ∷ c ∷ d ∷ []) (word_in (a ∷ b ∷ c ∷ d ∷ t)) refl each refl))
   where
     each : (i : ℕ) → slice_index (a ∷ b ∷ c ∷ d ∷ []) i < 256
@@ -67,16 +63,9 @@ four_read (a ∷ b ∷ c ∷ d ∷ t) h le = ap (λ xs. xs ++ t) (sym (le_bytes_
     each (suc (suc zero)) = h 2
     each (suc (suc (suc zero))) = h 3
     each (suc (suc (suc (suc i)))) = lit< tt
+four_read _ h le = absurd (omega (arith, le))
 
 pub eight_read : (t : List ℕ) → AreBytes t → 8 ≤ length t → t ≡ to_le_bytes w64 (wide_in t) ++ drop 8 t
-eight_read [] h le = absurd (omega (arith, le))
-eight_read (a ∷ []) h le = absurd (omega (arith, le))
-eight_read (a ∷ b ∷ []) h le = absurd (omega (arith, le))
-eight_read (a ∷ b ∷ c ∷ []) h le = absurd (omega (arith, le))
-eight_read (a ∷ b ∷ c ∷ d ∷ []) h le = absurd (omega (arith, le))
-eight_read (a ∷ b ∷ c ∷ d ∷ e ∷ []) h le = absurd (omega (arith, le))
-eight_read (a ∷ b ∷ c ∷ d ∷ e ∷ f ∷ []) h le = absurd (omega (arith, le))
-eight_read (a ∷ b ∷ c ∷ d ∷ e ∷ f ∷ g ∷ []) h le = absurd (omega (arith, le))
 eight_read (a ∷ b ∷ c ∷ d ∷ e ∷ f ∷ g ∷ k ∷ t) h le = ap (λ xs. xs ++ t) (sym (le_bytes_8 (a ∷ b ∷ c ∷ d ∷ e ∷ f ∷ g ∷ k ∷ []) (wide_in (a ∷ b ∷ c ∷ d ∷ e ∷ f ∷ g ∷ k ∷ t)) refl each refl))
   where
     each : (i : ℕ) → slice_index (a ∷ b ∷ c ∷ d ∷ e ∷ f ∷ g ∷ k ∷ []) i < 256
@@ -89,6 +78,7 @@ eight_read (a ∷ b ∷ c ∷ d ∷ e ∷ f ∷ g ∷ k ∷ t) h le = ap (λ xs.
     each (suc (suc (suc (suc (suc (suc zero)))))) = h 6
     each (suc (suc (suc (suc (suc (suc (suc zero))))))) = h 7
     each (suc (suc (suc (suc (suc (suc (suc (suc i)))))))) = lit< tt
+eight_read _ h le = absurd (omega (arith, le))
 
 pub word_tail : (t : List ℕ) → AreBytes t → starts_with nat_eq t (to_le_bytes w32 (word_in t)) ≡ has_bytes 4 t
 word_tail t h = read_tail t (to_le_bytes w32 (word_in t)) 4 refl (four_read t h)

@@ -2,7 +2,7 @@
 -- chapter 2, "Instruction Format"): prefixes, REX, the opcode, ModRM, SIB, displacement, immediate.
 -- Numbers stand with the lowest byte first, and where a short and a long form would both do, the short
 -- one.
-use Rattle.std.specs.Prelude.{ℕ, ◌+◌, ◌*◌, ◌/◌, ◌%◌, ◌^◌, ◌<◌, ◌≡◌, ◌≢◌, ◌==◌, Bool, true, false, ℤ, pos, negsuc, ◌≤ℤ◌, nat_lt, List, [], ◌∷◌, ◌++◌, if◌then◌else◌}
+use Rattle.std.specs.Prelude.{ℕ, ◌+◌, ◌*◌, ◌/◌, ◌%◌, ◌^◌, ◌<◌, ◌≢◌, ◌==◌, Bool, true, false, ℤ, pos, negsuc, ◌≤ℤ◌, nat_lt, List, [], ◌∷◌, ◌++◌, if◌then◌else◌}
 use Rattle.std.specs.Int.{w32, w64, to_le_bytes}
 use Rattle.lg_base.specs.Fields.{bits_of}
 use Rattle.lg_x86.specs.declared.rows.Mark.{Mark}

@@ -1,4 +1,4 @@
-use Rattle.std.proofs.Common.{◌≡◌, ℕ, List, length, Option, ◌∙◌, arith}
+use Rattle.std.proofs.Common.{length, ◌∙◌, arith}
 use Rattle.lg_base.proofs.WordFrontLemmas.{none_from}
 use Rattle.lg_base.specs.Fronts.{BeginsWith}
 use Rattle.lg_x86.specs.Spelling.{IsInstr, spelling}
