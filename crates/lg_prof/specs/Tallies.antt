@@ -1,5 +1,5 @@
 -- The numbers of the lines of a text.
-use Rattle.std.specs.Prelude.{ℕ, ◌+◌, ◌==◌, List, [], ◌∷◌, slice_index_or, if◌then◌else◌}
+use Rattle.std.specs.Prelude.{ℕ, List, [], ◌∷◌, slice_index_or}
 pub use Rattle.lg_mean.specs.LineCounts.{AreBelow}
 use Rattle.lg_prof.specs.declared.tally.Counts.{Counts}
 
@@ -17,7 +17,3 @@ ran_at tally line = (slice_index_or tally line no_counts).ran
 
 abbrev pub spent_at : List Counts → ℕ → ℕ
 spent_at tally line = (slice_index_or tally line no_counts).spent
-
--- one more at a line
-abbrev pub one_more : (ℕ → ℕ) → ℕ → ℕ → ℕ
-one_more numbers line l = if l == line then numbers l + 1 else numbers l

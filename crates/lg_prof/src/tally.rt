@@ -1,9 +1,9 @@
 // The numbers of lines.
 
-ghost use Rattle.std.specs.Prelude.{◌≡◌, ◌<◌, ◌≤◌, ◌+◌, ◌-◌, ◌^◌, ℕ, IfOk, length, replicate, slice_index_or};
+ghost use Rattle.std.specs.Prelude.{◌≡◌, ◌<◌, ℕ, IfOk, length, replicate, slice_index_or};
 ghost use Rattle.lg_io.specs.Wrote.{Wrote};
 ghost use Rattle.lg_prof.specs.Tables.{table, told_line, numbers_line};
-ghost use Rattle.lg_prof.specs.Tallies.{AreBelow, no_counts, one_more, ran_at, spent_at};
+ghost use Rattle.lg_prof.specs.Tallies.{AreBelow, no_counts, ran_at, spent_at};
 
 use lg_base::OutOfMemory;
 use lg_io::{Digits, Radix, Sink, SinkFault, write_parts};
@@ -112,28 +112,6 @@ impl Tally {
             };
         }
         Counts { ran: 0, spent: 0 }
-    }
-
-    /// A step of the text more at a line, which is at most the greatest of the nodes that `new` was given; its number is below `u64::MAX`.
-    pub fn ran(&mut self, line: u32)
-        requires line { line < length self.old }
-        requires few { ran_at self.old line < 2 ^ 64 - 1 }
-        ensures lines { length self.new ≡ length self.old }
-        ensures ran { (l : ℕ) → ran_at self.new l ≡ one_more (ran_at self.old) line l }
-        ensures spent { (l : ℕ) → spent_at self.new l ≡ spent_at self.old l }
-    {
-        self.ran[line as usize] += 1;
-    }
-
-    /// A step of the code more at a line, which is at most the greatest of the nodes that `new` was given; its number is below `u64::MAX`.
-    pub fn spent(&mut self, line: u32)
-        requires line { line < length self.old }
-        requires few { spent_at self.old line < 2 ^ 64 - 1 }
-        ensures lines { length self.new ≡ length self.old }
-        ensures ran { (l : ℕ) → ran_at self.new l ≡ ran_at self.old l }
-        ensures spent { (l : ℕ) → spent_at self.new l ≡ one_more (spent_at self.old) line l }
-    {
-        self.spent[line as usize] += 1;
     }
 
     /// Returns the steps of the text and those of the code at a line: both are 0 at a line that no node has.
