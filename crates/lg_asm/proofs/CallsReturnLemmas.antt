@@ -1,20 +1,17 @@
 -- A call gives back what the meaning's call returns.
-use Rattle.std.proofs.Common.{◌≡◌, ◌≢◌, ℕ, zero, suc, ◌+◌, ◌*◌, ◌≤◌, ◌⊎◌, inl, inr, List, [], Option, Some, None, refl, sym, ap, ◌∙◌, subst, arith, ⊎_elim}
+use Rattle.std.proofs.Common.{◌≡◌, ◌≢◌, ℕ, zero, suc, ◌*◌, ◌≤◌, [], Option, Some, None, refl, sym, ap, ◌∙◌, subst, arith, ⊎_elim}
 use Rattle.std.proofs.lemmas.Bool.{cases_lt}
 use Rattle.lg_base.specs.Runs.{Status, Running, Ended, Bad, Machine, iter, IsMachine}
-use Rattle.lg_base.specs.declared.target.Target.{Target}
 use Rattle.lg_carry.specs.Agreement.{meaning_of, shape_of_unit}
-use Rattle.lg_cpu.specs.States.{CpuState}
 use Rattle.lg_cpu.specs.Targets.{machine_of}
 use Rattle.lg_meaning.specs.Means as mean
 use Rattle.lg_meaning.specs.States.{State}
-use Rattle.lg_meaning.specs.Steps.{Ending, Exited, Left, Outcome, Goes, Ends, Undefined, ending_status}
+use Rattle.lg_meaning.specs.Steps.{Ending, Left, Outcome, Goes, Ends, Undefined, ending_status}
 use Rattle.lg_meaning.proofs.MeanLemmas.{means_are_machines}
-use Rattle.lg_node.specs.declared.unit.Unit.{Unit as TextUnit}
 use Rattle.lg_temp.specs.Paces.{KeepsPace, EndsAlike}
 use Rattle.lg_temp.proofs.Steps.{iter-after}
-use Rattle.lg_asm.specs.Called.{AgreesAs, EndsAsMeant, run_of}
-use Rattle.lg_asm.specs.Entered.{GivesBack, CallsReturn}
+use Rattle.lg_asm.specs.Called.{EndsAsMeant, run_of}
+use Rattle.lg_asm.specs.Entered.{CallsReturn}
 
 over-runs : {s : ℕ} → Ended s ≡ Running → ⊥
 over-runs e = cc

@@ -11,13 +11,12 @@ use Rattle.lg_node.specs.Nodes.{LabelledNodes}
 use Rattle.lg_node.specs.Preparations.{prepared_before, pushed}
 use Rattle.lg_op.specs.declared.node.Node.{Node}
 use Rattle.lg_live.specs.Liveness.{LiveSets}
-use Rattle.lg_temp.specs.Chosen.{around, choices_of, spills}
-use Rattle.lg_sel.specs.Selected.{first_arguments}
+use Rattle.lg_temp.specs.Chosen.{spills}
 use Rattle.lg_temp.specs.declared.choice.Choice.{Choice}
 use Rattle.lg_temp.specs.declared.choice.Choice.TheVariants.{Free, Own, Spill}
 use Rattle.lg_asm.specs.Assembled.{ArePushed}
 use Rattle.lg_asm.specs.Passed.{passed_after}
-use Rattle.lg_asm.specs.NodeChoices.{live_behind, needs_on, node_choices, choices_at, is_spill, spills_of, spills_in}
+use Rattle.lg_asm.specs.NodeChoices.{live_behind, node_choices, choices_at, is_spill, spills_of, spills_in}
 use Rattle.lg_asm.proofs.WellLemmas.{passed-next, pushed-few}
 
 -- the registers that are saved, counted
@@ -34,11 +33,6 @@ pub saved-of : (target : Target) (nodes : List Node) (sets : LiveSets) (i passed
     → node_choices target (live_behind sets i) passed n ≡ Some choices → spills choices ≡ spills_of (choices_at target nodes sets i)
 saved-of target nodes sets i passed n choices here before is =
     sym (ap spills_of (ap (option_and_then (node_choices target (live_behind sets i) (pushed nodes i))) here ∙ (ap (λ k. node_choices target (live_behind sets i) k n) (sym before) ∙ is)))
-
--- and where a node has no needs
-pub none-saved : (target : Target) (nodes : List Node) (sets : LiveSets) (i : ℕ) (n : Node) → slice_get nodes i ≡ Some n → needs_on target n.op ≡ [] → 0 ≡ spills_of (choices_at target nodes sets i)
-none-saved target nodes sets i n here none =
-    sym (ap spills_of (ap (option_and_then (node_choices target (live_behind sets i) (pushed nodes i))) here ∙ ap (choices_of (around target n (live_behind sets i) (first_arguments (pushed nodes i)))) none))
 
 -- the counts of the first nodes
 pub record AreCounted (target : Target) (l : LabelledNodes) (sets : LiveSets) (xs : List ℕ) (passed saved count : ℕ) : Type 0 where

@@ -5,7 +5,7 @@ use Rattle.std.proofs.lemmas.Bool.{cases_lt}
 use Rattle.std.proofs.lemmas.Bool.Decides.{nat_tests}
 use Rattle.std.proofs.lemmas.Option.{slice_get_within, slice_get-get_or}
 use Rattle.lg_base.specs.Conventions.{argument_registers, argument_register, argument_word, link_register, stack_register}
-use Rattle.lg_base.specs.Layout.{return_word, stop_address, stack_argument, stack_end}
+use Rattle.lg_base.specs.Layout.{return_word, stop_address, stack_argument}
 use Rattle.lg_base.specs.Parts.{data_base, args_base, heap_base, stack_base}
 use Rattle.lg_base.specs.Spaces.{mapped, stored}
 use Rattle.lg_base.specs.declared.target.Target.{Target}
@@ -16,9 +16,9 @@ use Rattle.lg_carry.proofs.WordLemmas.{word-kept}
 use Rattle.lg_carry.specs.Frames.{arriving, IsLinked}
 use Rattle.lg_carry.specs.Registers.{HasWord}
 use Rattle.lg_cells.specs.Cells.{within}
-use Rattle.lg_cpu.specs.Entering.{put_word, put_in, put_argument, put_arguments, put_return, entry_pointer, called, entered}
+use Rattle.lg_cpu.specs.Entering.{put_word, put_in, put_argument, put_arguments, put_return, entry_pointer, entered}
 use Rattle.lg_cpu.specs.States.{CpuState}
-use Rattle.lg_meaning.specs.Starts.{Entry, MayEnter, entered_state}
+use Rattle.lg_meaning.specs.Starts.{Entry, MayEnter}
 use Rattle.lg_va.specs.Calls.{calling_stack}
 use Rattle.lg_asm.proofs.StartLemmas.{stored-small}
 use Rattle.lg_asm.specs.Entered.{HoldsEntry, IsEntered, ProcessorsEnter}
@@ -107,31 +107,10 @@ number-of X86_64 r = if r == 7 then 0 else if r == 6 then 1 else if r == 2 then 
 
 numbered : (target : Target) (i r : ℕ) → argument_register target i ≡ Some r → number-of target r ≡ i
 unfolding number-of
-numbered Riscv64 zero r e = cc
-numbered Riscv64 (suc zero) r e = cc
-numbered Riscv64 (suc (suc zero)) r e = cc
-numbered Riscv64 (suc (suc (suc zero))) r e = cc
-numbered Riscv64 (suc (suc (suc (suc zero)))) r e = cc
-numbered Riscv64 (suc (suc (suc (suc (suc zero))))) r e = cc
-numbered Riscv64 (suc (suc (suc (suc (suc (suc zero)))))) r e = cc
-numbered Riscv64 (suc (suc (suc (suc (suc (suc (suc zero))))))) r e = cc
 numbered Riscv64 (suc (suc (suc (suc (suc (suc (suc (suc i)))))))) r e = cc
-numbered Aarch64 zero r e = cc
-numbered Aarch64 (suc zero) r e = cc
-numbered Aarch64 (suc (suc zero)) r e = cc
-numbered Aarch64 (suc (suc (suc zero))) r e = cc
-numbered Aarch64 (suc (suc (suc (suc zero)))) r e = cc
-numbered Aarch64 (suc (suc (suc (suc (suc zero))))) r e = cc
-numbered Aarch64 (suc (suc (suc (suc (suc (suc zero)))))) r e = cc
-numbered Aarch64 (suc (suc (suc (suc (suc (suc (suc zero))))))) r e = cc
 numbered Aarch64 (suc (suc (suc (suc (suc (suc (suc (suc i)))))))) r e = cc
-numbered X86_64 zero r e = cc
-numbered X86_64 (suc zero) r e = cc
-numbered X86_64 (suc (suc zero)) r e = cc
-numbered X86_64 (suc (suc (suc zero))) r e = cc
-numbered X86_64 (suc (suc (suc (suc zero)))) r e = cc
-numbered X86_64 (suc (suc (suc (suc (suc zero))))) r e = cc
 numbered X86_64 (suc (suc (suc (suc (suc (suc i)))))) r e = cc
+numbered target i r e = cc
 
 -- ---- the arguments
 module _ (target : Target) (stack count : ℕ) (low : stack_base + 0x1000 ≤ stack) (high : stack + 8 * (count - 6) ≤ stack_base + 0x100000) where
@@ -140,8 +119,7 @@ module _ (target : Target) (stack count : ℕ) (low : stack_base + 0x1000 ≤ st
     where
       by : (t : Target) → 6 ≤ length (argument_registers t)
       by Riscv64 = omega arith
-      by Aarch64 = omega arith
-      by X86_64 = omega arith
+      by t = omega arith
 
   -- an argument without a register comes after those with one
   past : (i : ℕ) → argument_register target i ≡ None → length (argument_registers target) ≤ i
@@ -239,8 +217,7 @@ stack-other X86_64 e = let x : ◌≡◌ {A = ℕ} 7 4 = cc in omega (arith, x)
 
 link-of : (t : Target) (r : ℕ) → link_register t ≡ Some r → link_number t ≡ r
 link-of Riscv64 r l = cc
-link-of Aarch64 r l = cc
-link-of X86_64 r l = cc
+link-of t r l = cc
 
 link-apart : (t : Target) → argument_register t (number-of t (link_number t)) ≡ Some (link_number t) → ⊥
 unfolding number-of
@@ -257,8 +234,7 @@ link-is-other t r l e = by t (link-of t r l ∙ e)
   where
     by : (x : Target) → link_number x ≡ stack_register x → ⊥
     by Riscv64 h = omega (arith, h)
-    by Aarch64 h = omega (arith, h)
-    by X86_64 h = omega (arith, h)
+    by x h = omega (arith, h)
 
 module _ (target : Target) (e : Entry) (target-address : ℕ) (q : CpuState) (may : MayEnter e) (stack-is : e.sp ≡ calling_stack (length e.args)) (are : (k w : ℕ) → slice_get e.args k ≡ Some w → w < 2 ^ 64)
     (words : (r : ℕ) → q.registers r < 2 ^ 64) (holds : HoldsEntry e q.bytes) (mark : q.mark ≡ e.mark) where

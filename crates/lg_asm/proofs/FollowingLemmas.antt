@@ -1,7 +1,6 @@
 -- Calls follow one another.
-use Rattle.std.proofs.Common.{◌≡◌, ℕ, ◌+◌, ◌-◌, ◌<◌, ◌≤◌, inr, Bool, true, false, ◌||◌, List, ◌∷◌, Option, Some, None, length, refl, sym, ap, ◌∙◌, arith}
+use Rattle.std.proofs.Common.{◌≡◌, ℕ, ◌-◌, ◌<◌, ◌≤◌, inr, Bool, true, false, ◌||◌, List, ◌∷◌, Option, Some, None, length, refl, sym, ap, ◌∙◌, arith}
 use Rattle.std.specs.Prelude.{is_some, nat_lt, if◌then◌else◌}
-use Rattle.std.proofs.lemmas.Bool.{or_cases}
 use Rattle.std.proofs.lemmas.Bool.Decides.{nat_tests}
 use Rattle.lg_base.specs.Parts.{data_base, args_base, heap_base, stack_base}
 use Rattle.lg_base.specs.Runs.{Status}
@@ -12,7 +11,7 @@ use Rattle.lg_cpu.specs.States.{CpuState}
 use Rattle.lg_meaning.proofs.StackLemmas.{inside, in_frames}
 use Rattle.lg_meaning.specs.Fits.{FitsWell}
 use Rattle.lg_meaning.specs.Starts.{IsEntryStack, MayEnter, outside_stack, entry_after}
-use Rattle.lg_meaning.specs.States.{State, in_any_locals, is_part, is_open}
+use Rattle.lg_meaning.specs.States.{State, in_any_locals}
 use Rattle.lg_node.specs.Nodes.{LabelledNodes}
 use Rattle.lg_node.specs.Shapes.{TextShape}
 use Rattle.lg_va.specs.Calls.{calling_stack}

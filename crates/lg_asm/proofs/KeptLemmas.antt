@@ -26,8 +26,7 @@ use Rattle.lg_asm.specs.Targets.{processor_of}
 -- ---- a host function's step
 kept-no-result : (target : Target) → is_kept target (result_register target) ≡ true → ⊥
 kept-no-result X86_64 e = cc
-kept-no-result Aarch64 e = cc
-kept-no-result Riscv64 e = cc
+kept-no-result target e = cc
 
 same-number : (a b : ℕ) → (a == b) ≡ true → a ≡ b
 same-number a b e = grind (arith, e)

@@ -38,15 +38,11 @@ module _ (places : List (Option Place)) where
   -- ---- registers that operands name
   placed-names : (p : Option Place) (l : Label) (r : Reg) → is_register r (placed p (operand.Label l)) ≡ is_register r (operand.Label l)
   placed-names (Some (place.Image k)) l r = refl
-  placed-names (Some (place.Node k)) l r = refl
-  placed-names None l r = refl
+  placed-names p l r = refl
 
   register-same : (x : Operand) (r : Reg) → is_register r (resolved places x) ≡ is_register r x
   register-same (operand.Label l) r = placed-names (place_of places l) l r
-  register-same (operand.Reg q) r = refl
-  register-same (operand.Number v) r = refl
-  register-same (operand.Host name) r = refl
-  register-same (operand.Slot k) r = refl
+  register-same x r = refl
 
   map-names : (a : Access) (fs : List Form) (xs : List Operand) (r : Reg) → names a fs (map (resolved places) xs) r ≡ names a fs xs r
   map-names a [] xs r = refl

@@ -70,11 +70,6 @@ module _ (c : Code) (sets : LiveSets) (are : AreLive c.nodes c.shape sets) where
       let never : false ≡ true = sym (ap (λ (x : RegSet). has x q) (get_or_past sets.before i (record { 0 = 0 }) le)) ∙ e in
       cc
 
-  after_past : (i : ℕ) (q : Reg) → length sets.behind ≤ i → has (get_or sets.behind i (record { 0 = 0 })) q ≡ true → ⊥
-  after_past i q le e =
-      let never : false ≡ true = sym (ap (λ (x : RegSet). has x q) (get_or_past sets.behind i (record { 0 = 0 }) le)) ∙ e in
-      cc
-
   before_is : (i : ℕ) (q : Reg) → i < length c.nodes.nodes → (has (get_or sets.before i (record { 0 = 0 })) q ≡ true) ↔ IsLive c.nodes c.shape q i
   before_is i q lt = are.before i (get_or sets.before i (record { 0 = 0 })) (slice_get-get_or sets.before i (record { 0 = 0 }) (omega (arith, are.before_count))) q
 

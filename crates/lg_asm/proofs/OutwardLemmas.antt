@@ -1,5 +1,5 @@
 -- The marks of the nodes at which labels are bound.
-use Rattle.std.proofs.Common.{◌≡◌, ℕ, ◌+◌, ◌<◌, ◌≤◌, Bool, true, false, ◌||◌, List, [], ◌∷◌, Option, Some, None, length, take, refl, sym, ap, ◌∙◌, arith, ⊎_elim}
+use Rattle.std.proofs.Common.{◌≡◌, ℕ, ◌+◌, ◌<◌, ◌≤◌, Bool, false, ◌||◌, List, [], ◌∷◌, Option, Some, length, take, refl, sym, ap, ◌∙◌, arith, ⊎_elim}
 use Rattle.std.specs.Prelude.{◌==◌, slice_get, slice_index_or}
 use Rattle.std.specs.List.{All, list_any}
 use Rattle.std.specs.Option.{option_flatten}
@@ -10,20 +10,12 @@ use mathlib.Core.Path.{fun_ext}
 use Rattle.lg_carry.specs.Entries.{entry_at}
 use Rattle.lg_meaning.specs.Starts.{begins_at}
 use Rattle.lg_meaning.specs.Steps.{node_in}
-use Rattle.lg_node.specs.Labels.{place_of}
 use Rattle.lg_node.specs.Nodes.{LabelledNodes, MayStand}
 use Rattle.lg_node.specs.declared.place.Place.{Place}
 use Rattle.lg_node.specs.declared.place.Place.TheVariants as place
-use Rattle.lg_node.proofs.TableLemmas.{any_on}
 use Rattle.lg_op.specs.declared.operand.Label.{Label}
 use Rattle.lg_asm.specs.Lowered.{is_marked, is_outward}
 use Rattle.lg_asm.proofs.WellLemmas.{within-of}
-
-or-swap : (x y : Bool) → (x || y) ≡ (y || x)
-or-swap true true = refl
-or-swap true false = refl
-or-swap false true = refl
-or-swap false false = refl
 
 -- no label is bound after the end
 none-past : (l : LabelledNodes) → All (MayStand (length l.nodes)) l.places → (i : ℕ) → length l.nodes + 1 ≤ i → (x : Label) → (i == begins_at l (Some x)) ≡ false
@@ -33,10 +25,8 @@ none-past l placed i past x = by (slice_get l.places x.0) refl
     apart k le = grind (arith, le, past)
 
     by : (o : Option (Option Place)) → slice_get l.places x.0 ≡ o → (i == begins_at l (Some x)) ≡ false
-    by None e = ap (λ (o : Option (Option Place)). i == node_in (option_flatten o)) e ∙ apart 0 (omega arith)
-    by (Some None) e = ap (λ (o : Option (Option Place)). i == node_in (option_flatten o)) e ∙ apart 0 (omega arith)
-    by (Some (Some (place.Image k))) e = ap (λ (o : Option (Option Place)). i == node_in (option_flatten o)) e ∙ apart 0 (omega arith)
     by (Some (Some (place.Node k))) e = ap (λ (o : Option (Option Place)). i == node_in (option_flatten o)) e ∙ apart k (within-of (length l.nodes) l.places placed x.0 k e)
+    by r e = ap (λ (o : Option (Option Place)). i == node_in (option_flatten o)) e ∙ apart 0 (omega arith)
 
 any-none : (p : Label → Bool) (xs : List Label) → ((x : Label) → p x ≡ false) → list_any p xs ≡ false
 any-none p [] h = refl
@@ -46,16 +36,6 @@ any-none p (x ∷ xs) h = ap (λ b. b || list_any p xs) (h x) ∙ any-none p xs 
 pub record AreMarked (l : LabelledNodes) (entries : List Label) (marks : List Bool) (n : ℕ) : Type 0 where
   pub count : length marks ≡ length l.nodes + 1
   pub each : (i : ℕ) → i < length marks → slice_index_or marks i false ≡ list_any (λ x. i == begins_at l (Some x)) (take n entries)
-
-pub mark-next : (l : LabelledNodes) (entries : List Label) (old new : List Bool) (n : ℕ) (x : Label) (p : Option Place) → AreMarked l entries old n → slice_get entries n ≡ Some x → p ≡ place_of l.places x
-    → length new ≡ length old → ((i : ℕ) → i < length old → slice_index_or new i false ≡ ((i == node_in p) || slice_index_or old i false)) → AreMarked l entries new (n + 1)
-mark-next l entries old new n x p h here is count marked = record {
-  count = count ∙ h.count;
-  each = λ i lt.
-      let below : i < length old = omega (arith, lt, count) in
-      marked i below ∙ ap (λ o. (i == node_in o) || slice_index_or old i false) is ∙ ap (λ b. (i == begins_at l (Some x)) || b) (h.each i below)
-      ∙ or-swap (i == begins_at l (Some x)) (list_any (λ y. i == begins_at l (Some y)) (take n entries)) ∙ sym (any_on (λ y. i == begins_at l (Some y)) entries n x here);
-}
 
 pub marked-all : (l : LabelledNodes) (entries : List Label) (marks : List Bool) (n : ℕ) → All (MayStand (length l.nodes)) l.places → AreMarked l entries marks n → n ≡ length entries
     → is_marked l marks ≡ is_outward l entries

@@ -8,7 +8,6 @@ use Rattle.std.proofs.lemmas.Bool.{cases_lt}
 use Rattle.lg_base.specs.Layout.{code_base, stack_end}
 use Rattle.lg_base.specs.declared.target.Target.{Target}
 use Rattle.lg_base.specs.declared.target.Target.TheVariants.{X86_64, Aarch64, Riscv64}
-use Rattle.lg_node.proofs.SuccessorLaws.{has_functions}
 use Rattle.lg_node.proofs.WellShaped.{well_shaped}
 use Rattle.lg_cpu.specs.Laws.{AreBytes}
 use Rattle.lg_cpu.specs.States.{CpuState}
@@ -21,7 +20,6 @@ use Rattle.lg_node.specs.declared.unit.Unit.{Unit as TextUnit}
 use Rattle.lg_temp.specs.Agrees.{AgreesAt}
 use Rattle.lg_temp.specs.Paces.{KeepsPace, EndsAlike}
 use Rattle.lg_cpu.proofs.RunLemmas.{machine_is, no_host}
-use Rattle.lg_meaning.proofs.MeanLemmas.{mean_fits}
 use Rattle.lg_carry.specs.Entries.{entry_at}
 use Rattle.lg_carry.specs.FinalNodes.{Code}
 use Rattle.lg_carry.specs.Disturbed.{IsDisturber, disturbed}
@@ -189,10 +187,8 @@ label-there : (l : LabelledNodes) (places addresses : List ℕ) → AreOf l plac
 label-there l places addresses of x h = by (slice_get l.places x.0) refl h
   where
     by : (o : Option (Option Place)) → slice_get l.places x.0 ≡ o → is_entry l.nodes (option_flatten o) ≡ true → slice_index addresses x.0 ≡ code_base + slice_index places (begins_at l (Some x))
-    by None e f = cc
-    by (Some None) e f = cc
-    by (Some (Some (place.Image k))) e f = cc
     by (Some (Some (place.Node k))) e f = of.nodes x.0 k e ∙ ap (λ o. code_base + slice_index places (node_in (option_flatten o))) (sym e)
+    by o e f = cc
 
 pub entered-code-agrees : EnteredCodeAgrees
 entered-code-agrees c unit shape entries k from outward i x listed begins e trash q word entered =

@@ -1,5 +1,5 @@
 -- A function that is called from outside: the processor at its first instruction, by the convention of its target and whatever else it holds, and what its run then is.
-use Rattle.std.specs.Prelude.{◌≡◌, ℕ, ◌+◌, ◌*◌, ◌^◌, ◌<◌, ◌≤◌, true, List, [], Option, Some, None, length, is_some, slice_get, slice_index}
+use Rattle.std.specs.Prelude.{◌≡◌, ℕ, ◌*◌, ◌^◌, ◌<◌, ◌≤◌, true, List, [], Option, Some, length, is_some, slice_get, slice_index}
 use Rattle.lg_base.specs.Conventions.{stack_register, link_register}
 use Rattle.lg_base.specs.Layout.{stop_address}
 use Rattle.lg_base.specs.Parts.{heap_base, stack_base}
