@@ -53,37 +53,21 @@ memcpy-kept m m' to from n l d = by (n == 0) (can_copy m to from n) refl refl d
     by false false e f d = absurd d
 
 table-kept : (name : HostName) (args more : List ℕ) (v : Bool) (m m' : Mem) → IsLarger m m' → named name ≤ length args → IsDefined (table name (slice_index args 0) (slice_index args 1) (slice_index args 2) args v m) → table name (slice_index (args ++ more) 0) (slice_index (args ++ more) 1) (slice_index (args ++ more) 2) (args ++ more) true m' ≡ table name (slice_index args 0) (slice_index args 1) (slice_index args 2) args v m
-table-kept host.Printf [] more v m m' l n d = absurd (omega arith)
 table-kept host.Printf (a ∷ ws) more false m m' l n d = absurd d
 table-kept host.Printf (a ∷ ws) more true m m' l n d = text-kept m.mark m'.mark (printed_at m.bytes reading.Plain a ws) (printed_at m'.bytes reading.Plain a (ws ++ more)) l.mark (printed_at-extends m.bytes m'.bytes reading.Plain a ws more l.bytes) d
-table-kept host.Puts [] more v m m' l n d = absurd (omega arith)
 table-kept host.Puts (a ∷ ws) more v m m' l n d = text-kept m.mark m'.mark (option_map (λ string. string ++ 10 ∷ []) (string_in (run m.bytes a))) (option_map (λ string. string ++ 10 ∷ []) (string_in (run m'.bytes a))) l.mark (Extends-map (λ string. string ++ 10 ∷ []) (string_in (run m.bytes a)) (string_in (run m'.bytes a)) (string-extends (run m.bytes a) (run m'.bytes a) (run-begins m.bytes m'.bytes a l.bytes))) d
-table-kept host.Putchar [] more v m m' l n d = absurd (omega arith)
 table-kept host.Putchar (a ∷ ws) more v m m' l n d = ap (λ k. Gives (a % 256) unchanged k (a % 256 ∷ [])) l.mark
-table-kept host.Exit [] more v m m' l n d = absurd (omega arith)
 table-kept host.Exit (a ∷ ws) more v m m' l n d = refl
 table-kept host.Abort ws more v m m' l n d = refl
-table-kept host.Atoi [] more v m m' l n d = absurd (omega arith)
 table-kept host.Atoi (a ∷ ws) more v m m' l n d = answered-kept m.mark m'.mark (atoi_in (run m.bytes a)) (atoi_in (run m'.bytes a)) l.mark (atoi-extends (run m.bytes a) (run m'.bytes a) (run-begins m.bytes m'.bytes a l.bytes)) d
-table-kept host.Malloc [] more v m m' l n d = absurd (omega arith)
 table-kept host.Malloc (a ∷ ws) more v m m' l n d = ap (λ k. malloc k a) l.mark
-table-kept host.Calloc [] more v m m' l n d = absurd (omega arith)
-table-kept host.Calloc (a ∷ []) more v m m' l n d = absurd (omega arith)
 table-kept host.Calloc (a ∷ b ∷ ws) more v m m' l n d = ap (λ k. calloc k (a * b)) l.mark
 table-kept host.Free ws more v m m' l n d = ap (λ k. Gives 0 unchanged k []) l.mark
-table-kept host.Memcpy [] more v m m' l n d = absurd (omega arith)
-table-kept host.Memcpy (a ∷ []) more v m m' l n d = absurd (omega arith)
-table-kept host.Memcpy (a ∷ b ∷ []) more v m m' l n d = absurd (omega arith)
 table-kept host.Memcpy (a ∷ b ∷ c ∷ ws) more v m m' l n d = memcpy-kept m m' a b c l d
-table-kept host.Memset [] more v m m' l n d = absurd (omega arith)
-table-kept host.Memset (a ∷ []) more v m m' l n d = absurd (omega arith)
-table-kept host.Memset (a ∷ b ∷ []) more v m m' l n d = absurd (omega arith)
 table-kept host.Memset (a ∷ b ∷ c ∷ ws) more v m m' l n d = memset-kept m m' a b c l d
-table-kept host.Strlen [] more v m m' l n d = absurd (omega arith)
 table-kept host.Strlen (a ∷ ws) more v m m' l n d = answered-kept m.mark m'.mark (option_map length (string_in (run m.bytes a))) (option_map length (string_in (run m'.bytes a))) l.mark (Extends-map length (string_in (run m.bytes a)) (string_in (run m'.bytes a)) (string-extends (run m.bytes a) (run m'.bytes a) (run-begins m.bytes m'.bytes a l.bytes))) d
-table-kept host.Strcmp [] more v m m' l n d = absurd (omega arith)
-table-kept host.Strcmp (a ∷ []) more v m m' l n d = absurd (omega arith)
 table-kept host.Strcmp (a ∷ b ∷ ws) more v m m' l n d = answered-kept m.mark m'.mark (compared (run m.bytes a) (run m.bytes b)) (compared (run m'.bytes a) (run m'.bytes b)) l.mark (compared-extends (run m.bytes a) (run m.bytes b) (run m'.bytes a) (run m'.bytes b) (run-begins m.bytes m'.bytes a l.bytes) (run-begins m.bytes m'.bytes b l.bytes)) d
+table-kept _ _ more v m m' l n d = absurd (omega arith)
 
 pub host_of-kept : IsKept
 host_of-kept name args more v m m' l d = by (nat_lt (length args) (named name)) refl d
@@ -224,11 +208,8 @@ memcpy-allowed m to from n bytes lt le = on-if (n == 0) (Gives to unchanged m.ma
 
 table-allowed : (name : HostName) (a b c : ℕ) (args : List ℕ) (v : Bool) (m : Mem) → a < 2 ^ 64 → ((a b : ℕ) → m.bytes a ≡ Some b → b < 256) → m.mark ≤ heap_end → OnGives (table name a b c args v m) (IsAllowed m)
 table-allowed host.Printf a b c args true m lt bytes le = text-allowed m (printed_at m.bytes reading.Plain a (drop 1 args)) le
-table-allowed host.Printf a b c args false m lt bytes le = tt
 table-allowed host.Puts a b c args v m lt bytes le = text-allowed m (option_map (λ string. string ++ 10 ∷ []) (string_in (run m.bytes a))) le
 table-allowed host.Putchar a b c args v m lt bytes le = unchanged-allowed m (a % 256) (a % 256 ∷ []) (omega arith) le
-table-allowed host.Exit a b c args v m lt bytes le = tt
-table-allowed host.Abort a b c args v m lt bytes le = tt
 table-allowed host.Atoi a b c args v m lt bytes le = answered-allowed m (atoi_in (run m.bytes a)) (atoi-lt (run m.bytes a)) le
 table-allowed host.Malloc a b c args v m lt bytes le = malloc-allowed m a le
 table-allowed host.Calloc a b c args v m lt bytes le = calloc-allowed m (a * b) le
@@ -237,6 +218,7 @@ table-allowed host.Memcpy a b c args v m lt bytes le = memcpy-allowed m a b c by
 table-allowed host.Memset a b c args v m lt bytes le = memset-allowed m a b c lt le
 table-allowed host.Strlen a b c args v m lt bytes le = answered-allowed m (option_map length (string_in (run m.bytes a))) (strlen-lt m.bytes a) le
 table-allowed host.Strcmp a b c args v m lt bytes le = answered-allowed m (compared (run m.bytes a) (run m.bytes b)) (compared-lt (run m.bytes a) (run m.bytes b)) le
+table-allowed _ a b c args _ m lt bytes le = tt
 
 pub host_of-allowed : AnswersAllowed
 host_of-allowed name args v m s = on-if (nat_lt (length args) (named name)) Undefined (table name (slice_index args 0) (slice_index args 1) (slice_index args 2) args v m) (IsAllowed m)

@@ -97,11 +97,8 @@ atoi-extends (x ∷ xs) (y ∷ ys) h =
 
 -- ---- what printf writes, with further arguments
 converted-extends : (p q : Bytes) (s : Style) (k : Kind) (w : ℕ) → HasBytes p q → Extends (converted p s k w) (converted q s k w)
-converted-extends p q s (kind.Signed n) w h = refl
-converted-extends p q s (kind.Unsigned r n) w h = refl
-converted-extends p q s kind.Character w h = refl
 converted-extends p q s kind.Text w h = Extends-map (padded s []) (string_in (run p w)) (string_in (run q w)) (string-extends (run p w) (run q w) (run-begins p q w h))
-converted-extends p q s kind.Pointer w h = refl
+converted-extends p q s _ w h = refl
 
 -- what follows a conversion
 follow-extends : (o o' : Option (List ℕ)) (ws ws' : List ℕ) (f g : Effect → Option (List ℕ)) → Extends o o' → ((bytes : List ℕ) → Extends (f (wrote bytes ws)) (g (wrote bytes ws'))) → Extends (followed_by (option_map (λ bytes. wrote bytes ws) o) f) (followed_by (option_map (λ bytes. wrote bytes ws') o') g)

@@ -9,7 +9,7 @@ use Rattle.lg_host.specs.Runs.{Bytes}
 use Rattle.lg_host.specs.Strings.{is_digit}
 use Rattle.lg_host.specs.Formats.{number_letter, at_width, with_digit, plain_style, next_of}
 use Rattle.lg_host.specs.Printed.{wrote, effect_of, followed_by, converted, printed}
-use Rattle.lg_host.specs.Pieces.{Length, Int, Char, Short, Long, LongLong, length_bytes, size_of, NumberLetter, LowerD, LowerI, LowerU, LowerX, UpperX, LowerO, number_code, number_kind, PlainLetter, LowerC, LowerS, LowerP, plain_code, plain_kind, Itself, Percent, Number, Plain, spelled, all_spelled, AreFlags, AreDigits, width_of, BeginsWithoutZero, IsWidth, has_flag, style_of, with_argument, given, PrintsItsPieces}
+use Rattle.lg_host.specs.Pieces.{Length, Int, Char, Short, Long, LongLong, length_bytes, size_of, NumberLetter, LowerD, number_code, number_kind, PlainLetter, LowerC, LowerS, LowerP, plain_code, plain_kind, Itself, Percent, Number, Plain, spelled, all_spelled, AreFlags, AreDigits, width_of, BeginsWithoutZero, IsWidth, has_flag, style_of, with_argument, given, PrintsItsPieces}
 use Rattle.lg_host.specs.declared.format.Style.{Style}
 use Rattle.lg_host.specs.declared.format.Size.{Size}
 use Rattle.lg_host.specs.declared.format.Size.TheVariants as size
@@ -139,35 +139,19 @@ front m fs ds rest args f w p =
 -- ---- a length and a letter
 number-at : (s : Style) (n : Size) (l : NumberLetter) → number_letter s n (number_code l) ≡ next.Converts s (number_kind n l)
 number-at s n LowerD = refl
-number-at s n LowerI = refl
-number-at s n LowerU = refl
-number-at s n LowerX = refl
-number-at s n UpperX = refl
-number-at s n LowerO = refl
+number-at s n _ = refl
 
 number-width : (s : Style) (l : NumberLetter) → at_width s (number_code l) ≡ next.Converts s (number_kind size.Int l)
 number-width s LowerD = refl
-number-width s LowerI = refl
-number-width s LowerU = refl
-number-width s LowerX = refl
-number-width s UpperX = refl
-number-width s LowerO = refl
+number-width s _ = refl
 
 number-half : (s : Style) (l : NumberLetter) → next_of (reading.Half s) (number_code l) ≡ next.Converts s (number_kind size.Short l)
 number-half s LowerD = refl
-number-half s LowerI = refl
-number-half s LowerU = refl
-number-half s LowerX = refl
-number-half s UpperX = refl
-number-half s LowerO = refl
+number-half s _ = refl
 
 number-longer : (s : Style) (l : NumberLetter) → next_of (reading.Longer s) (number_code l) ≡ next.Converts s (number_kind size.Long l)
 number-longer s LowerD = refl
-number-longer s LowerI = refl
-number-longer s LowerU = refl
-number-longer s LowerX = refl
-number-longer s UpperX = refl
-number-longer s LowerO = refl
+number-longer s _ = refl
 
 number-tail : (m : Bytes) (s : Style) (len : Length) (l : NumberLetter) (rest args : List ℕ) → printed m (reading.Width s) (length_bytes len ++ (number_code l ∷ rest)) args ≡ converts_to m s (number_kind (size_of len) l) rest args
 number-tail m s Int l rest args = converts m (reading.Width s) (number_code l) rest args s (number_kind size.Int l) (number-width s l)
@@ -193,15 +177,7 @@ plain-width s LowerP z = rw z refl
 
 number-no-flag : (len : Length) (l : NumberLetter) (rest : List ℕ) → NoFlag (length_bytes len ++ (number_code l ∷ rest))
 number-no-flag Int LowerD rest = (λ e. omega arith, λ e. omega arith, λ e. omega arith)
-number-no-flag Int LowerI rest = (λ e. omega arith, λ e. omega arith, λ e. omega arith)
-number-no-flag Int LowerU rest = (λ e. omega arith, λ e. omega arith, λ e. omega arith)
-number-no-flag Int LowerX rest = (λ e. omega arith, λ e. omega arith, λ e. omega arith)
-number-no-flag Int UpperX rest = (λ e. omega arith, λ e. omega arith, λ e. omega arith)
-number-no-flag Int LowerO rest = (λ e. omega arith, λ e. omega arith, λ e. omega arith)
-number-no-flag Char l rest = (λ e. omega arith, λ e. omega arith, λ e. omega arith)
-number-no-flag Short l rest = (λ e. omega arith, λ e. omega arith, λ e. omega arith)
-number-no-flag Long l rest = (λ e. omega arith, λ e. omega arith, λ e. omega arith)
-number-no-flag LongLong l rest = (λ e. omega arith, λ e. omega arith, λ e. omega arith)
+number-no-flag _ _ rest = (λ e. omega arith, λ e. omega arith, λ e. omega arith)
 
 plain-no-flag : (l : PlainLetter) (rest : List ℕ) → NoFlag (plain_code l ∷ rest)
 plain-no-flag LowerC rest = (λ e. omega arith, λ e. omega arith, λ e. omega arith)

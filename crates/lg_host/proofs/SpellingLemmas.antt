@@ -226,12 +226,6 @@ one-more text bs b p q = (p.0 ∷ q.0, ((p.1.0, q.1.0), sym (append_assoc text (
 
 spelled-by : (m : Bytes) (r : Reading) (format args bytes text : List ℕ) → Leads r text → printed m r format args ≡ Some bytes → IsSpelled (text ++ format)
 spelled-by m reading.Plain [] args bytes text h e = ([], (tt, ap (λ x. x ++ []) h))
-spelled-by m reading.Start [] args bytes text h e = let no : ⊥ = cc in absurd no
-spelled-by m (reading.Flags s) [] args bytes text h e = let no : ⊥ = cc in absurd no
-spelled-by m (reading.Width s) [] args bytes text h e = let no : ⊥ = cc in absurd no
-spelled-by m (reading.Half s) [] args bytes text h e = let no : ⊥ = cc in absurd no
-spelled-by m (reading.Longer s) [] args bytes text h e = let no : ⊥ = cc in absurd no
-spelled-by m (reading.Sized s n) [] args bytes text h e = let no : ⊥ = cc in absurd no
 spelled-by m r (b ∷ bs) args bytes text h e = by (next_of r b) args (λ r' ws x u. spelled-by m r' bs ws x u) (leads-step r b text h) e
   where
     by : (n : Next) (args : List ℕ) → ((r' : Reading) (ws x u : List ℕ) → Leads r' u → printed m r' bs ws ≡ Some x → IsSpelled (u ++ bs)) → After n (text ++ b ∷ []) → followed_by (effect_of m n args) (λ e. printed m e.reading bs e.left) ≡ Some bytes → IsSpelled (text ++ b ∷ bs)
@@ -244,6 +238,7 @@ spelled-by m r (b ∷ bs) args bytes text h e = by (next_of r b) args (λ r' ws 
         behind None e = let no : ⊥ = cc in absurd no
         behind (Some front) e = let x = map-some (λ bytes. front ++ bytes) (printed m reading.Plain bs ws) bytes e in one-more text bs b a (ih reading.Plain ws x.0 [] refl x.1)
     by next.Wrong args ih a e = let no : ⊥ = cc in absurd no
+spelled-by m _ [] args bytes text h e = let no : ⊥ = cc in absurd no
 
 pub spelled-by-pieces : IsSpelledByPieces
 spelled-by-pieces m format args bytes e = let q = spelled-by m reading.Plain format args bytes [] refl e in (q.0, q.1.0, q.1.1)

@@ -1,4 +1,4 @@
-use Rattle.std.proofs.Common.{ℕ, ◌-◌, List, sym, ap, ◌∙◌, subst}
+use Rattle.std.proofs.Common.{ℕ, List, sym, ap, ◌∙◌, subst}
 use Rattle.lg_host.specs.Output.{Passed, output, bytes_from}
 use Rattle.lg_host.proofs.OutputLemmas.{bytes_from-list}
 use Rattle.lg_host.proofs.parts.put_text.Goals as goal
