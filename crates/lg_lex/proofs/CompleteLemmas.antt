@@ -36,23 +36,7 @@ after_forward bytes place = blanks_forward (suc (length bytes)) bytes place
 -- levels are 1 to 10
 level_bounds : (operator : Operator) → (1 ≤ level_of operator) × (level_of operator ≤ 10)
 level_bounds Multiply = (omega arith, omega arith)
-level_bounds Divide = (omega arith, omega arith)
-level_bounds Remainder = (omega arith, omega arith)
-level_bounds Add = (omega arith, omega arith)
-level_bounds Subtract = (omega arith, omega arith)
-level_bounds ShiftLeft = (omega arith, omega arith)
-level_bounds ShiftRight = (omega arith, omega arith)
-level_bounds Less = (omega arith, omega arith)
-level_bounds LessEqual = (omega arith, omega arith)
-level_bounds Greater = (omega arith, omega arith)
-level_bounds GreaterEqual = (omega arith, omega arith)
-level_bounds Equal = (omega arith, omega arith)
-level_bounds NotEqual = (omega arith, omega arith)
-level_bounds BitAnd = (omega arith, omega arith)
-level_bounds BitXor = (omega arith, omega arith)
-level_bounds BitOr = (omega arith, omega arith)
-level_bounds And = (omega arith, omega arith)
-level_bounds Or = (omega arith, omega arith)
+level_bounds other = (omega arith, omega arith)
 
 -- where no operator of a level up to some one stands
 abbrev pub Stops : List ℕ → ℕ → ℕ → Type 0

@@ -200,10 +200,8 @@ solid_take (suc n) (b ∷ bytes) some more s = solid_stays b (take n bytes) s
 
 -- a token of such a kind stays in its line
 abbrev pub FrontStays : List ℕ → Front → Type 0
-FrontStays bytes Nothing = Unit {0}
-FrontStays bytes (Skips n) = Unit {0}
 FrontStays bytes (Finds kind n value) = is_solid_kind kind ≡ true → StaysInLine (take n bytes)
-FrontStays bytes (Fails kind) = Unit {0}
+FrontStays bytes other = Unit {0}
 
 stays_cond : (bytes : List ℕ) (b : Bool) (x y : Front) → (b ≡ true → FrontStays bytes x) → (b ≡ false → FrontStays bytes y) → FrontStays bytes (cond b x y)
 stays_cond bytes true x y first second = first refl

@@ -52,14 +52,12 @@ table_mark host.Puts a b c args v m h = text_mark m.mark _ h
 table_mark host.Putchar a b c args v m h = same m.mark h
 table_mark host.Exit a b c args v m h = tt
 table_mark host.Abort a b c args v m h = tt
-table_mark host.Atoi a b c args v m h = answered_mark m.mark _ h
 table_mark host.Malloc a b c args v m h = if_mark m.mark (fits m.mark a) _ _ (λ t. handed m.mark a t) (same m.mark h)
 table_mark host.Calloc a b c args v m h = if_mark m.mark (fits m.mark (a * b)) _ _ (λ t. handed m.mark (a * b) t) (same m.mark h)
 table_mark host.Free a b c args v m h = same m.mark h
 table_mark host.Memcpy a b c args v m h = block_mark m.mark a (copied m.bytes a b c) (c == 0) (is_addressed a c && is_addressed b c && not (overlaps a b c) && mapped m.bytes b c && can_write m.room a c) h
 table_mark host.Memset a b c args v m h = block_mark m.mark a (filled a (b % 256) c) (c == 0) (is_addressed a c && can_write m.room a c) h
-table_mark host.Strlen a b c args v m h = answered_mark m.mark _ h
-table_mark host.Strcmp a b c args v m h = answered_mark m.mark _ h
+table_mark other a b c args v m h = answered_mark m.mark _ h
 
 pub host_mark : (name : HostName) (args : List ℕ) (v : Bool) (m : Mem) → m.mark ≤ heap_end → AllowsMark m.mark (host_of name args v m)
 host_mark name args v m h = if_mark m.mark (nat_lt (length args) (named name)) _ _ (λ t. tt) (table_mark name (slice_index args 0) (slice_index args 1) (slice_index args 2) args v m h)
@@ -112,11 +110,9 @@ host_later (Exits n) d g frames m m' o (end.Exit x) a low high r s =
     let mark = s.1.mark in
     record { room = s.1.room ∙ r ∙ ap (λ n. is_part d g n frames) (sym mark); low = rw mark low; high = rw mark high }
 host_later (Exits n) d g frames m m' o (end.Value x) a low high r s = absurd s
-host_later (Exits n) d g frames m m' o end.WriteFault a low high r s = absurd s
-host_later (Exits n) d g frames m m' o end.Undefined a low high r s = absurd s
+host_later (Exits n) d g frames m m' o other a low high r s = absurd s
 host_later Undefined d g frames m m' o end.Undefined a low high r s =
     let mark = s.0.mark in
     record { room = s.0.room ∙ r ∙ ap (λ n. is_part d g n frames) (sym mark); low = rw mark low; high = rw mark high }
 host_later Undefined d g frames m m' o (end.Value x) a low high r s = absurd s
-host_later Undefined d g frames m m' o (end.Exit x) a low high r s = absurd s
-host_later Undefined d g frames m m' o end.WriteFault a low high r s = absurd s
+host_later Undefined d g frames m m' o other a low high r s = absurd s

@@ -29,11 +29,8 @@ bound places k h = ⊎_elim (λ x. x.1) (λ x. absurd (past x.1)) (slice_get_cas
     past e = true≢false (subst (λ (o : Option (Option Place)). is_none (option_flatten o) ≡ false) e h)
 
 known_one : (places : List (Option Place)) (x : Operand) → is_missing places x ≡ false → IsKnown (length places) x
-known_one places (operand.Reg r) h = tt
-known_one places (operand.Number n) h = tt
 known_one places (operand.Label l) h = bound places l.0 h
-known_one places (operand.Host name) h = tt
-known_one places (operand.Slot k) h = tt
+known_one places other h = tt
 
 known_in : (places : List (Option Place)) (xs : List Operand) (i : ℕ) → list_any (is_missing places) xs ≡ false → IsKnown (length places) (slice_index_or xs i (operand.Number 0))
 known_in places [] i h = tt

@@ -38,8 +38,7 @@ when_none false o h = refl
 -- ---- calls
 host_none : (s : State) (h : Host) → word_left (host_end s h) ≡ None
 host_none s (Gives v changes mark bytes) = refl
-host_none s (Exits status) = refl
-host_none s host.Undefined = refl
+host_none s other = refl
 
 module _ (t : Text) (s : State) (args : List ℕ) where
   by_host : (name : HostName) → word_left (call_host s args name) ≡ None
@@ -52,9 +51,7 @@ module _ (t : Text) (s : State) (args : List ℕ) where
   by_operand : (x : Operand) → word_left (call_operand t s args x) ≡ None
   by_operand (operand.Host name) = by_host name
   by_operand (operand.Label l) = by_node (node_of_label t.places (operand.Label l))
-  by_operand (operand.Reg r) = by_node 0
-  by_operand (operand.Number k) = by_node 0
-  by_operand (operand.Slot k) = by_node 0
+  by_operand other = by_node 0
 
   by_name : (w : ℕ) (o : Option HostName) → word_left (call_named t s args w o) ≡ None
   by_name w (Some name) = by_host name
@@ -82,11 +79,7 @@ module _ (t : Text) (n : Node) (s : State) where
   by_plain plain.VaStart = need_none (value t.addresses s (operand_at n 1)) _ (λ a. refl)
   by_plain plain.VaArg = need_none (value t.addresses s (operand_at n 1)) _ (λ i. need_none (slice_get s.frame.args i) _ (λ v. refl))
   by_plain plain.VaEnd = need_none (value t.addresses s (operand_at n 0)) _ (λ i. refl)
-  by_plain plain.Prepare = refl
-  by_plain plain.Ellipsis = refl
-  by_plain plain.Arg = refl
-  by_plain plain.Allocai = refl
-  by_plain plain.Align = refl
+  by_plain other = refl
 
   by_return : (v : Option ℕ) (callers : List Frame) → word_left (need v (λ w. back_to s (Some w) callers)) ≡ where_alone callers v
   by_return None [] = refl
@@ -117,8 +110,7 @@ module _ (t : Text) (n : Node) (s : State) where
 -- ---- runs
 after_outcome : (s : State) (out : List ℕ) (o : Outcome) → word_left o ≡ run_word (behind (run_at s out) o)
 after_outcome s out (Goes t bytes) = refl
-after_outcome s out (Ends e) = refl
-after_outcome s out Undefined = refl
+after_outcome s out other = refl
 
 pub words_left : StepsAreMeans → WordsLeftAreOfRuns
 words_left law = λ l shape A start s out k h. after_outcome s out (step l shape A s) ∙ ap run_word (sym (law l shape A start s out k h))

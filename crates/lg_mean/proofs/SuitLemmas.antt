@@ -60,32 +60,14 @@ module _ (l : LabelledNodes) (shape : TextShape) (w : IsWellShaped l) (s : State
       omega (arith, count, few)
 
   suits_of : (o : Op) → n.op ≡ o → Suits shape.functions o s (length s.pushed)
-  suits_of (op.Binary a b) e = tt
-  suits_of (op.Wide a b) e = tt
-  suits_of (op.Branch a b) e = tt
-  suits_of (op.BranchSum a b) e = tt
-  suits_of (op.Control control.Jmp b) e = tt
   suits_of (op.Control control.Call b) e = begun false (rw e refl) (rw e refl)
   suits_of (op.Control control.Finish b) e = begun false (rw e refl) (rw e refl)
   suits_of (op.Control control.Pusharg b) e = pushes b e
   suits_of (op.Control control.Ret b) e = begun false (rw e refl) (rw e refl)
-  suits_of (op.Unary a) e = tt
-  suits_of (op.Plain plain.Movi) e = tt
-  suits_of (op.Plain plain.Prepare) e = tt
-  suits_of (op.Plain plain.Ellipsis) e = tt
   suits_of (op.Plain plain.Prolog) e = can_begin (rw e refl)
   suits_of (op.Plain plain.Epilog) e = begun false (rw e refl) (rw e refl)
   suits_of (op.Plain plain.Ret) e = begun false (rw e refl) (rw e refl)
-  suits_of (op.Plain plain.Arg) e = tt
-  suits_of (op.Plain plain.Allocai) e = tt
-  suits_of (op.Plain plain.Align) e = tt
-  suits_of (op.Plain plain.VaStart) e = tt
-  suits_of (op.Plain plain.VaArg) e = tt
-  suits_of (op.Plain plain.VaEnd) e = tt
-  suits_of (op.Load a b) e = tt
-  suits_of (op.Store a b) e = tt
-  suits_of (op.Retval a) e = tt
-  suits_of (op.Getarg a) e = tt
+  suits_of other e = tt
 
   pub suits : Suits shape.functions n.op s (length s.pushed)
   suits = suits_of n.op refl

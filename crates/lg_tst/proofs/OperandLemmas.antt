@@ -38,28 +38,16 @@ differ_apart (operand.Reg a) (operand.Reg b) e same =
     let twice = (bytes_eq-Decides (register_word a) (register_word b)).1 (ap register_word one) in
     false≢true (sym (ap not twice) ∙ e)
 differ_apart (operand.Reg a) _ e same = cc
-differ_apart (operand.Number n) x e same = false≢true e
-differ_apart (operand.Label n) x e same = false≢true e
-differ_apart (operand.Host n) x e same = false≢true e
-differ_apart (operand.Slot n) x e same = false≢true e
+differ_apart other x e same = false≢true e
 
 apart_more : (op : Op) (done : List Operand) (x : Operand) → IsApart op done → stays_apart op done x ≡ true → IsApart op (done ++ x ∷ [])
 apart_more (Wide op last) [] x apart e = tt
 apart_more (Wide op last) (a ∷ []) x apart e = differ_apart a x e
 apart_more (Wide op last) (a ∷ b ∷ more) x apart e = apart
-apart_more (Binary op last) done x apart e = tt
-apart_more (Branch op last) done x apart e = tt
-apart_more (BranchSum op last) done x apart e = tt
-apart_more (Control op last) done x apart e = tt
-apart_more (Unary op) done x apart e = tt
 apart_more (Plain plain.VaArg) [] x apart e = tt
 apart_more (Plain plain.VaArg) (a ∷ []) x apart e = differ_apart a x e
 apart_more (Plain plain.VaArg) (a ∷ b ∷ more) x apart e = apart
-apart_more (Plain op) done x apart e = tt
-apart_more (Load t at) done x apart e = tt
-apart_more (Store t at) done x apart e = tt
-apart_more (Retval t) done x apart e = tt
-apart_more (Getarg t) done x apart e = tt
+apart_more other done x apart e = tt
 
 -- this many operands of an instruction have been read, and the others decide what all of them give
 pub record IsRead (op : Op) (line i : ℕ) (done : List Operand) (s first : State) : Type 0 where

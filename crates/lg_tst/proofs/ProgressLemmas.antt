@@ -42,15 +42,7 @@ tail_less (t ∷ ts) = omega arith
 
 noted_left : (k : TokenKind) (s : State) (form : Form) (done : List Operand) (text : List ℕ) → length (noted_by k s form done text).source.left ≤ length s.source.left
 noted_left Word s form done text = omega arith
-noted_left Directive s form done text = omega arith
-noted_left LabelMark s form done text = omega arith
-noted_left Register s form done text = omega arith
-noted_left Number s form done text = omega arith
-noted_left Character s form done text = omega arith
-noted_left Expression s form done text = omega arith
-noted_left Name s form done text = omega arith
-noted_left Host s form done text = omega arith
-noted_left Str s form done text = omega arith
+noted_left other s form done text = omega arith
 
 weaker : (m n : ℕ) (r : Result State Refusal) → m ≤ n → Leaves m r → Leaves n r
 weaker m n (Ok u) h leaves = omega (arith, h, leaves)
@@ -69,17 +61,7 @@ operands_leave op line (f ∷ fs) done s =
 
 begun_left : (op : Op) (s : State) → length (begun op s).source.left ≤ length s.source.left
 begun_left (Plain plain.Prolog) s = omega arith
-begun_left (Plain _) s = omega arith
-begun_left (Binary op last) s = omega arith
-begun_left (Wide op last) s = omega arith
-begun_left (Branch op last) s = omega arith
-begun_left (BranchSum op last) s = omega arith
-begun_left (Control op last) s = omega arith
-begun_left (Unary op) s = omega arith
-begun_left (Load t at) s = omega arith
-begun_left (Store t at) s = omega arith
-begun_left (Retval t) s = omega arith
-begun_left (Getarg t) s = omega arith
+begun_left other s = omega arith
 
 instruction_leaves : (op : Op) (s : State) (line : ℕ) → Leaves (length s.source.left) (instruction op s line)
 instruction_leaves op s line = cond_leaves _ (nat_lt (length s.list.nodes) 1048576) _ _ (weaker (length (begun op s).source.left) _ _ (begun_left op s) (operands_leave op line (written_forms op) [] (begun op s))) tt

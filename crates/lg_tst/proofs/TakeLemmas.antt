@@ -69,15 +69,7 @@ after_leads s r leads = further s.source (passed s.source) r (tail s.source) lea
 
 noted_later : (k : TokenKind) (s : State) (form : Form) (done : List Operand) (text : List ℕ) → IsLater s.source (noted_by k s form done text).source
 noted_later Word s form done text = same s.source
-noted_later Directive s form done text = same s.source
-noted_later LabelMark s form done text = same s.source
-noted_later Register s form done text = same s.source
-noted_later Number s form done text = same s.source
-noted_later Character s form done text = same s.source
-noted_later Expression s form done text = same s.source
-noted_later Name s form done text = same s.source
-noted_later Host s form done text = same s.source
-noted_later Str s form done text = same s.source
+noted_later other s form done text = same s.source
 
 operands_lead : (op : Op) (line : ℕ) (fs : List Form) (done : List Operand) (s : State) → Leads s.source (operands op line fs done s)
 unfolding operands
@@ -90,17 +82,7 @@ operands_lead op line (f ∷ fs) done s =
 
 begun_later : (op : Op) (s : State) → IsLater s.source (begun op s).source
 begun_later (Plain plain.Prolog) s = same s.source
-begun_later (Plain _) s = same s.source
-begun_later (Binary op last) s = same s.source
-begun_later (Wide op last) s = same s.source
-begun_later (Branch op last) s = same s.source
-begun_later (BranchSum op last) s = same s.source
-begun_later (Control op last) s = same s.source
-begun_later (Unary op) s = same s.source
-begun_later (Load t at) s = same s.source
-begun_later (Store t at) s = same s.source
-begun_later (Retval t) s = same s.source
-begun_later (Getarg t) s = same s.source
+begun_later other s = same s.source
 
 instruction_leads : (op : Op) (s : State) (line : ℕ) → Leads s.source (instruction op s line)
 instruction_leads op s line =
