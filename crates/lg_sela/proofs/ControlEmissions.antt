@@ -109,11 +109,8 @@ leads-emit Far is holds l h = front Far is 1 0 (instr.BranchIf (turned holds) (p
 
 -- ---- items
 restores-none : (saved : ℕ) → NoneStores (restores saved)
-restores-none zero = refl
-restores-none (suc zero) = refl
-restores-none (suc (suc zero)) = refl
-restores-none (suc (suc (suc zero))) = refl
 restores-none (suc (suc (suc (suc n)))) = refl
+restores-none saved = refl
 
 return-none : (saved frame : ℕ) → NoneStores (return_code saved frame)
 return-none saved frame = stores.none-append a64_stores (restores saved) (leaving_code frame) (restores-none saved) (by (nat_lt frame 4096))

@@ -5,7 +5,6 @@ use Rattle.lg_buf.specs.Buffers.{Buffer, place_of}
 use Rattle.lg_buf.specs.declared.fixes.Fix.{Fix}
 use Rattle.lg_buf.specs.declared.fixes.FixKind.TheVariants.{A64Cond19}
 use Rattle.lg_op.specs.declared.node.Node.{Node}
-use Rattle.lg_op.specs.declared.op.Op.TheVariants as op
 use Rattle.lg_sel.proofs.LabelLemmas.{names}
 use Rattle.lg_sel.specs.Selected.{IsFixOf}
 use Rattle.lg_sel.specs.Holes.{Each}

@@ -106,11 +106,9 @@ number-apart rd v = by (nat_lt (complement v) (2 ^ 32))
     by false = positive-apart rd v
 
 second-apart : (x : Operand) → Each Apart (second_code x)
-second-apart (operand.Reg b) = tt
 second-apart (operand.Number v) = number-apart link v
 second-apart (operand.Host name) = number-apart link (host_address name)
-second-apart (operand.Label l) = tt
-second-apart (operand.Slot k) = tt
+second-apart x = tt
 
 comparison-apart : (o : Condition) (a b : ℕ) → Each Apart (comparison o a b ∷ [])
 comparison-apart condition.Ms a b = (refl, tt)

@@ -204,11 +204,9 @@ module _ (r : Reach) (labels frame homes saved at : ℕ) where
 
   -- the second operand is put into its register
   second-fits : (x : Operand) → IsGiven labels x → AreItems (ones (second_code x))
-  second-fits (operand.Reg b) v = tt
   second-fits (operand.Number n) v = number-fits link n (omega arith) v
   second-fits (operand.Host name) v = number-fits link (host_address name) (omega arith) (host-small name)
-  second-fits (operand.Label l) v = tt
-  second-fits (operand.Slot k) v = tt
+  second-fits x v = tt
 
   first-small : (a : Reg) → register_of Aarch64 a < 32
   first-small a = let l = register-small a in omega (arith, l)

@@ -201,10 +201,8 @@ module _ (base n k frame sp : ℕ) (low : 0x3FF00010 + 272 ≤ sp) (high : sp �
     }
       where
         words : (j : ℕ) → j < 3 → s3.state.registers (portable_register Aarch64 (j + 3)) ≡ word_at m (saved_word fp j)
-        words zero lt = refl
-        words (suc zero) lt = refl
-        words (suc (suc zero)) lt = refl
         words (suc (suc (suc j))) lt = absurd (omega (arith, lt))
+        words j lt = refl
 
     two : k + 2 ≤ n → Restored (restores 2) base n k frame sp 2 q
     two room = record {
@@ -320,10 +318,8 @@ module _ (base n k frame sp : ℕ) (low : 0x3FF00010 + 272 ≤ sp) (high : sp �
       }
         where
           kept : (j : ℕ) → j < 3 → (left n3).state.registers (portable_register Aarch64 (j + 3)) ≡ q.state.registers (portable_register Aarch64 (j + 3))
-          kept zero lt = refl
-          kept (suc zero) lt = refl
-          kept (suc (suc zero)) lt = refl
           kept (suc (suc (suc j))) lt = absurd (omega (arith, lt))
+          kept j lt = refl
 
     -- ---- the stack pointer to that word, FP from there, and then the stack pointer again
     module _ (room : k + 5 ≤ n) where
@@ -374,10 +370,8 @@ module _ (base n k frame sp : ℕ) (low : 0x3FF00010 + 272 ≤ sp) (high : sp �
       }
         where
           kept : (j : ℕ) → j < 3 → (left f4).state.registers (portable_register Aarch64 (j + 3)) ≡ q.state.registers (portable_register Aarch64 (j + 3))
-          kept zero lt = refl
-          kept (suc zero) lt = refl
-          kept (suc (suc zero)) lt = refl
           kept (suc (suc (suc j))) lt = absurd (omega (arith, lt))
+          kept j lt = refl
 
     leaves : k + length (leaving_code frame) ≤ n → Leaves (leaving_code frame) q sp back
     leaves room = by (nat_lt frame 4096) room
@@ -389,11 +383,8 @@ module _ (base n k frame sp : ℕ) (low : 0x3FF00010 + 272 ≤ sp) (high : sp �
 
 -- all but the last are straight
 straight-restores : (kept : ℕ) (is : List Instr) → list_all is_straight is ≡ true → list_all is_straight (restores kept ++ is) ≡ true
-straight-restores zero is h = h
-straight-restores (suc zero) is h = h
-straight-restores (suc (suc zero)) is h = h
-straight-restores (suc (suc (suc zero))) is h = h
 straight-restores (suc (suc (suc (suc n)))) is h = h
+straight-restores kept is h = h
 
 return-block : (kept frame : ℕ) → IsBlock is_straight (return_code kept frame)
 return-block kept frame = by (nat_lt frame 4096)

@@ -100,20 +100,14 @@ twice true = refl
 twice false = refl
 
 turned-holds : (c : Cond) (f : Flags) → condition_holds (turned c) f ≡ not (condition_holds c f)
-turned-holds cond.Eq f = refl
 turned-holds cond.Ne f = sym (twice (condition_holds cond.Eq f))
-turned-holds cond.Cs f = refl
 turned-holds cond.Cc f = sym (twice (condition_holds cond.Cs f))
-turned-holds cond.Mi f = refl
 turned-holds cond.Pl f = sym (twice (condition_holds cond.Mi f))
-turned-holds cond.Vs f = refl
 turned-holds cond.Vc f = sym (twice (condition_holds cond.Vs f))
-turned-holds cond.Hi f = refl
 turned-holds cond.Ls f = sym (twice (condition_holds cond.Hi f))
 turned-holds cond.Ge f = sym (twice (condition_holds cond.Lt f))
-turned-holds cond.Lt f = refl
-turned-holds cond.Gt f = refl
 turned-holds cond.Le f = sym (twice (condition_holds cond.Gt f))
+turned-holds c f = refl
 
 -- two words on
 two-on : (pc : ℕ) → pc < 2 ^ 62 → away pc (word_of (pos 2)) ≡ pc + 8

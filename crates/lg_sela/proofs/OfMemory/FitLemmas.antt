@@ -1,5 +1,5 @@
 -- The items of loads, stores and arguments: their numbers are in the ranges of their instructions, there are few, and each is followed by the next.
-use Rattle.std.proofs.Common.{◌≡◌, ℕ, zero, suc, ◌+◌, ◌-◌, ◌/◌, ◌^◌, ◌<◌, ◌≤◌, Bool, true, false, List, [], ◌∷◌, ◌++◌, length, refl, arith, length-append}
+use Rattle.std.proofs.Common.{◌≡◌, ℕ, suc, ◌+◌, ◌-◌, ◌/◌, ◌^◌, ◌<◌, ◌≤◌, Bool, true, false, List, [], ◌∷◌, ◌++◌, length, refl, arith, length-append}
 use Rattle.std.specs.Prelude.{nat_lt, pos, negsuc, ◌≤ℤ◌, slice_index, if◌then◌else◌}
 use Rattle.lg_base.specs.Conventions.{argument_registers}
 use Rattle.lg_base.specs.HostNames.{host_address}
@@ -241,15 +241,8 @@ onto-fit j (operand.Slot k) few = linked-fit j (operand.Slot k) few
 
 -- the registers of arguments
 pub argument-fine : (j : ℕ) → Fine (slice_index (argument_registers Aarch64) j)
-argument-fine zero = (omega arith, refl)
-argument-fine (suc zero) = (omega arith, refl)
-argument-fine (suc (suc zero)) = (omega arith, refl)
-argument-fine (suc (suc (suc zero))) = (omega arith, refl)
-argument-fine (suc (suc (suc (suc zero)))) = (omega arith, refl)
-argument-fine (suc (suc (suc (suc (suc zero))))) = (omega arith, refl)
-argument-fine (suc (suc (suc (suc (suc (suc zero)))))) = (omega arith, refl)
-argument-fine (suc (suc (suc (suc (suc (suc (suc zero))))))) = (omega arith, refl)
 argument-fine (suc (suc (suc (suc (suc (suc (suc (suc j)))))))) = (omega arith, refl)
+argument-fine j = (omega arith, refl)
 
 push-fit : (j : ℕ) (n : Node) → j < 16 → AreFit 5 1 (push_code j n)
 push-fit j n few = by (nat_lt j 8)

@@ -1,7 +1,7 @@
 -- Passing an argument of a call.
 use Rattle.lg_carry.proofs.BelowLemmas.{not-below}
 use Rattle.lg_carry.specs.Memory.Accesses.{LiesAbove}
-use Rattle.std.proofs.Common.{◌≡◌, ◌≢◌, ℕ, zero, suc, ◌+◌, ◌-◌, ◌*◌, ◌^◌, ◌<◌, Bool, true, false, List, [], ◌∷◌, ◌++◌, refl, sym, ap, ◌∙◌, subst, arith, length, length-append, inr}
+use Rattle.std.proofs.Common.{◌≡◌, ◌≢◌, ℕ, suc, ◌+◌, ◌-◌, ◌*◌, ◌^◌, ◌<◌, Bool, true, false, List, [], ◌∷◌, ◌++◌, refl, sym, ap, ◌∙◌, subst, arith, length, length-append, inr}
 use Rattle.std.specs.Prelude.{Option, nat_lt, if◌then◌else◌, slice_index}
 use Rattle.lg_base.specs.Conventions.{argument_registers}
 use Rattle.lg_base.specs.HostNames.{host_address}
@@ -45,15 +45,8 @@ use Rattle.lg_sela.proofs.OfMemory.StoreLemmas.{store-does}
 
 -- ---- the registers of arguments
 pub argument-small : (j : ℕ) → j < 8 → slice_index (argument_registers Aarch64) j < 31
-argument-small zero h = omega arith
-argument-small (suc zero) h = omega arith
-argument-small (suc (suc zero)) h = omega arith
-argument-small (suc (suc (suc zero))) h = omega arith
-argument-small (suc (suc (suc (suc zero)))) h = omega arith
-argument-small (suc (suc (suc (suc (suc zero))))) h = omega arith
-argument-small (suc (suc (suc (suc (suc (suc zero)))))) h = omega arith
-argument-small (suc (suc (suc (suc (suc (suc (suc zero))))))) h = omega arith
 argument-small (suc (suc (suc (suc (suc (suc (suc (suc j)))))))) h = absurd (omega (arith, h))
+argument-small j h = omega arith
 
 -- ---- into a register
 module _ (code : List ℕ) (trash : ℕ) (q : Run CpuState) (fp : ℕ) where

@@ -1,6 +1,6 @@
 -- Reading the next variable argument of the function.
 use Rattle.lg_carry.specs.Memory.Accesses.{LiesAbove}
-use Rattle.std.proofs.Common.{◌≡◌, ◌≢◌, ℕ, zero, suc, ◌+◌, ◌-◌, ◌<◌, ◌≤◌, Bool, true, false, List, [], ◌∷◌, ◌++◌, Some, refl, sym, ap, ◌∙◌, arith}
+use Rattle.std.proofs.Common.{◌≡◌, ◌≢◌, ℕ, suc, ◌+◌, ◌-◌, ◌<◌, ◌≤◌, Bool, true, false, List, [], ◌∷◌, ◌++◌, Some, refl, sym, ap, ◌∙◌, arith}
 use Rattle.std.specs.Prelude.{◌==◌, nat_lt, if◌then◌else◌}
 use Rattle.lg_base.specs.Fields.{word_of}
 use Rattle.lg_base.specs.Layout.{frame_pointer, home_word, stack_argument}
@@ -9,7 +9,7 @@ use Rattle.lg_base.specs.Words.{add_words, sub_words, mul_words}
 use Rattle.lg_base.specs.declared.flags.Flags.{Flags}
 use Rattle.lg_base.specs.declared.target.Target.TheVariants.{Aarch64}
 use Rattle.lg_op.specs.declared.operand.Reg.{Reg}
-use Rattle.lg_op.specs.declared.operand.Reg.TheVariants.{R0, R1, R2, V0, V1, V2, Fp}
+use Rattle.lg_op.specs.declared.operand.Reg.TheVariants.{Fp}
 use Rattle.lg_a64.specs.declared.instruction.BitfieldOp.{BitfieldOp}
 use Rattle.lg_a64.specs.declared.instruction.BitfieldOp.TheVariants.{Sbfm, Ubfm}
 use Rattle.lg_a64.specs.declared.instruction.ImmOp.TheVariants.{Addi, Subi}
@@ -59,23 +59,8 @@ abbrev place : ℕ → ℕ → ℕ
 place sp k = if nat_lt k 8 then home_word (frame_pointer sp) k else stack_argument sp (k - 8)
 
 leads : (sp k : ℕ) → k < 16 → 272 ≤ sp → sp ≤ 0x40000000 → add_words (above (frame_pointer sp) k) (word_of argument_offset) ≡ place sp k
-leads sp zero few low high = omega (arith, low, high)
-leads sp (suc zero) few low high = omega (arith, low, high)
-leads sp (suc (suc zero)) few low high = omega (arith, low, high)
-leads sp (suc (suc (suc zero))) few low high = omega (arith, low, high)
-leads sp (suc (suc (suc (suc zero)))) few low high = omega (arith, low, high)
-leads sp (suc (suc (suc (suc (suc zero))))) few low high = omega (arith, low, high)
-leads sp (suc (suc (suc (suc (suc (suc zero)))))) few low high = omega (arith, low, high)
-leads sp (suc (suc (suc (suc (suc (suc (suc zero))))))) few low high = omega (arith, low, high)
-leads sp (suc (suc (suc (suc (suc (suc (suc (suc zero)))))))) few low high = omega (arith, low, high)
-leads sp (suc (suc (suc (suc (suc (suc (suc (suc (suc zero))))))))) few low high = omega (arith, low, high)
-leads sp (suc (suc (suc (suc (suc (suc (suc (suc (suc (suc zero)))))))))) few low high = omega (arith, low, high)
-leads sp (suc (suc (suc (suc (suc (suc (suc (suc (suc (suc (suc zero))))))))))) few low high = omega (arith, low, high)
-leads sp (suc (suc (suc (suc (suc (suc (suc (suc (suc (suc (suc (suc zero)))))))))))) few low high = omega (arith, low, high)
-leads sp (suc (suc (suc (suc (suc (suc (suc (suc (suc (suc (suc (suc (suc zero))))))))))))) few low high = omega (arith, low, high)
-leads sp (suc (suc (suc (suc (suc (suc (suc (suc (suc (suc (suc (suc (suc (suc zero)))))))))))))) few low high = omega (arith, low, high)
-leads sp (suc (suc (suc (suc (suc (suc (suc (suc (suc (suc (suc (suc (suc (suc (suc zero))))))))))))))) few low high = omega (arith, low, high)
 leads sp (suc (suc (suc (suc (suc (suc (suc (suc (suc (suc (suc (suc (suc (suc (suc (suc k)))))))))))))))) few low high = absurd (omega (arith, few))
+leads sp k few low high = omega (arith, low, high)
 
 -- ---- one instruction, of registers that are no 31
 module _ (u : ℕ → ℕ) (f : Flags) where
@@ -198,13 +183,8 @@ next-small k few = omega (arith, few)
 
 -- none but FP is in the register of FP
 off-frame : (r : Reg) → r ≢ Fp → register_of Aarch64 r ≢ 29
-off-frame R0 named e = absurd (omega (arith, e))
-off-frame R1 named e = absurd (omega (arith, e))
-off-frame R2 named e = absurd (omega (arith, e))
-off-frame V0 named e = absurd (omega (arith, e))
-off-frame V1 named e = absurd (omega (arith, e))
-off-frame V2 named e = absurd (omega (arith, e))
 off-frame Fp named e = absurd (named refl)
+off-frame r named e = absurd (omega (arith, e))
 
 apart-registers : (d s : Reg) → d ≢ Fp → s ≢ Fp → d ≢ s → Apart (register_of Aarch64 d) (register_of Aarch64 s)
 apart-registers d s nd ns ne = record {
